@@ -1,0 +1,5 @@
+pub mod Headings
+pub mod Walks
+pub mod Tables
+pub mod Laws
+pub mod Calls

@@ -1,0 +1,5 @@
+// Worked cases of the rules, each run on real heaps.
+#[cfg(test)]
+mod bump_cases;
+#[cfg(test)]
+mod layer_cases;

@@ -1,0 +1,4 @@
+pub mod Accounts
+pub mod Rationed
+pub mod Roundeds
+pub mod Affixed
