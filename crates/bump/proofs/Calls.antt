@@ -16,9 +16,9 @@ use Rattle.heap.specs.Checks.{admitted}
 use Rattle.heap.specs.Meaning.{Block, In, Covered, Granted, Freed, Filled, Fills, Same, NothingLive}
 use Rattle.heap.specs.Histories.{History, granted, freed, filled, after-fill}
 use Rattle.region.specs.Bytes.{word-at, span-of, Painted}
-use Rattle.bump.specs.Table.{Header, shaped, header-at, headers, walk, live-in, end-in, ended, none-live, bound-of, table, after-grant, after-free, table-after, bump-offer, bump-means, BumpKept, BumpKeeps, Headed, Struck, Grant, Strike, Paint, Paints}
+use Rattle.bump.specs.Table.{Header, shaped, header-at, headers, walk, live-in, end-in, ended, none-live, bound-of, table, table-granted, table-freed, table-after, bump-offer, bump-means, BumpKept, BumpKeeps, Headed, Struck, Grant, Strike, Paint, Paints}
 use Rattle.bump.proofs.Walks.{shaped-good, walk-end, header-none}
-use Rattle.bump.proofs.Tables.{headers-struck, headers-painted, headers-grown, end-more, live-more, live-after-free, end-after-free}
+use Rattle.bump.proofs.Tables.{headers-struck, headers-painted, headers-grown, end-more, live-more, live-table-freed, end-table-freed}
 use Rattle.bump.proofs.Laws.{Fresh, bump-found, bump-apart, bump-reach, covered-span}
 use Rattle.std.proofs.shelf.Tests.{cond-true, cond-false, eq-eqb, ne-eqb, cases-eq, cases-lt, not-true, not-false}
 use native.Mathlib.Omega.{arith}
@@ -29,7 +29,7 @@ unfolding header-at
 headed-header p l xs ys more h o g f =
     ap (λ (z : ℕ). shaped more p z (word-at ys (p + 4))) (h .size) ∙ ap (λ (z : ℕ). shaped more p l z) (h .state) ∙ shaped-good more p l 1 f o g (inl refl)
 
-grown-walk : (xs ys : List ℕ) (p l : ℕ) → Headed p l xs ys → 8 ≤ l → l % 8 ≡ 0 → end-in (walk xs p 0) 0 ≡ p → walk ys (p + 8 + l) 0 ≡ after-grant (walk xs p 0) l
+grown-walk : (xs ys : List ℕ) (p l : ℕ) → Headed p l xs ys → 8 ≤ l → l % 8 ≡ 0 → end-in (walk xs p 0) 0 ≡ p → walk ys (p + 8 + l) 0 ≡ table-granted (walk xs p 0) l
 unfolding walk
 grown-walk xs ys p l h o g w = headers-grown (p - 0) xs ys p (p + 8 + l) 0 l (h .before) refl (headed-header p l xs ys (p + 8 + l) h o g (omega arith)) w
 
@@ -46,7 +46,7 @@ module _ (xs ys : List ℕ) (cursor n : ℕ) (b : Block) (f : Fresh xs cursor n 
     table =
         ap (λ (z : ℕ). walk ys z 0) (new-bound (h .long))
         ∙ grown-walk xs ys cursor (b .1) h (f .some) (f .eighth) (sym (ap (λ (z : ℕ). end-in (walk xs z 0) 0) old-bound) ∙ f .whole)
-        ∙ ap (λ (z : ℕ). after-grant (walk xs z 0) (b .1)) (sym old-bound);
+        ∙ ap (λ (z : ℕ). table-granted (walk xs z 0) (b .1)) (sym old-bound);
   }
 
   module _ (g : Grant cursor b xs ys) where
@@ -71,7 +71,7 @@ module _ (xs ys : List ℕ) (cursor n : ℕ) (b : Block) (f : Fresh xs cursor n 
     kept-granted : (h : History) → BumpKept h xs cursor → BumpKept (granted n (b .0) (b .1) ∷ h) ys (b .0 + b .1)
     kept-granted h k = record {
       live = λ a. grant-live a ∙ ap (λ (z : ℕ). cond (eqb a (b .0)) (b .1) z) (k .live a);
-      table = g .table ∙ ap (λ (cs : List Header). after-grant cs (b .1)) (k .table);
+      table = g .table ∙ ap (λ (cs : List Header). table-granted cs (b .1)) (k .table);
       cursor =
           let at = f .at in
           let c = k .cursor in
@@ -137,7 +137,7 @@ module _ (xs ys : List ℕ) (cursor a : ℕ) (was : 0 < live-in (table xs cursor
 -- a free
 module _ (xs ys : List ℕ) (cursor next a : ℕ) (s : Strike a cursor next xs ys) where
   free-live : (x : ℕ) → live-in (table ys next) 0 x ≡ cond (eqb x a) 0 (live-in (table xs cursor) 0 x)
-  free-live x = ap (λ (cs : List Header). live-in cs 0 x) (s .table) ∙ live-after-free (table xs cursor) a x
+  free-live x = ap (λ (cs : List Header). live-in cs 0 x) (s .table) ∙ live-table-freed (table xs cursor) a x
 
   free-byte : (b x : ℕ) → In b (live-in (table ys next) 0 b) x → getD ys x 0 ≡ getD xs x 0
   free-byte b x i =
@@ -160,12 +160,12 @@ module _ (xs ys : List ℕ) (cursor next a : ℕ) (s : Strike a cursor next xs y
   kept-freed : (h : History) → BumpKept h xs cursor → BumpKept (freed a ∷ h) ys next
   kept-freed h k = record {
     live = λ y. free-live y ∙ ap (λ (z : ℕ). cond (eqb y a) 0 z) (k .live y);
-    table = s .table ∙ ap (λ (cs : List Header). after-free cs a) (k .table);
+    table = s .table ∙ ap (λ (cs : List Header). table-freed cs a) (k .table);
     cursor =
         s .moved
         ∙ ap (λ (cs : List Header). cond (none-live (ended cs 0 a)) 0 cursor) (k .table)
         ∙ ap (λ (z : ℕ). cond (none-live (ended (table-after h) 0 a)) 0 z) (k .cursor)
-        ∙ sym (end-after-free (table-after h) a);
+        ∙ sym (end-table-freed (table-after h) a);
   }
 
   pub keeps-freed : (zs : List ℕ) (was : ℕ) (h : History) → BumpKeeps zs was h xs cursor → BumpKeeps zs was (freed a ∷ h) ys next

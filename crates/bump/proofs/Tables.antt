@@ -9,7 +9,7 @@ use lib.ListN.{getD}
 use Rattle.std.specs.declared.option.Option.{Option}
 use Rattle.std.specs.declared.option.Option.the-variants.{Some, None}
 use Rattle.region.specs.Bytes.{word-at}
-use Rattle.bump.specs.Table.{Header, shaped, header-at, then-headers, headers, walk, live-in, end-in, ended, none-live, after-free, Struck}
+use Rattle.bump.specs.Table.{Header, shaped, header-at, then-headers, headers, walk, live-in, end-in, ended, none-live, table-freed, Struck}
 use Rattle.region.proofs.Words.{word-same}
 use Rattle.bump.proofs.Walks.{option-cases, shaped-is, shaped-fits, shaped-some, shaped-eighth, shaped-state, shaped-good, shape-of, header-none, then-same, headers-none, headers-some, walk-step, walk-end, live-other, live-here, live-low, both, end-from}
 use Rattle.std.proofs.shelf.Tests.{cond-true, cond-false, eq-eqb, ne-eqb, cases-eq, cases-lt, cases-bool}
@@ -201,16 +201,16 @@ none-live-at (c ∷ cs) p x e =
     none-here s t l e = grind arith
 
 -- a table after a free
-pub live-after-free : (t : List Header) (a x : ℕ) → live-in (after-free t a) 0 x ≡ cond (eqb x a) 0 (live-in t 0 x)
-live-after-free t a x =
+pub live-table-freed : (t : List Header) (a x : ℕ) → live-in (table-freed t a) 0 x ≡ cond (eqb x a) 0 (live-in t 0 x)
+live-table-freed t a x =
     ⊎-elim
     (λ (q : none-live (ended t 0 a) ≡ true).
     ap (λ (cs : List Header). live-in cs 0 x) (cond-true (none-live (ended t 0 a)) [] (ended t 0 a) q) ∙ sym (none-live-at (ended t 0 a) 0 x q) ∙ live-ended t 0 a x)
     (λ (q : none-live (ended t 0 a) ≡ false). ap (λ (cs : List Header). live-in cs 0 x) (cond-false (none-live (ended t 0 a)) [] (ended t 0 a) q) ∙ live-ended t 0 a x)
     (cases-bool (none-live (ended t 0 a)))
 
-pub end-after-free : (t : List Header) (a : ℕ) → end-in (after-free t a) 0 ≡ cond (none-live (ended t 0 a)) 0 (end-in t 0)
-end-after-free t a =
+pub end-table-freed : (t : List Header) (a : ℕ) → end-in (table-freed t a) 0 ≡ cond (none-live (ended t 0 a)) 0 (end-in t 0)
+end-table-freed t a =
     ⊎-elim
     (λ (q : none-live (ended t 0 a) ≡ true).
     ap (λ (cs : List Header). end-in cs 0) (cond-true (none-live (ended t 0 a)) [] (ended t 0 a) q) ∙ sym (cond-true (none-live (ended t 0 a)) 0 (end-in t 0) q))

@@ -91,18 +91,18 @@ none-live [] = true
 none-live (c ∷ cs) = cond (eqb (c .1) 1) false (none-live cs)
 
 -- a live block of length l came behind the others
-abbrev pub after-grant : List Header → ℕ → List Header
-after-grant t l = t ++ ((l, 1) ∷ [])
+abbrev pub table-granted : List Header → ℕ → List Header
+table-granted t l = t ++ ((l, 1) ∷ [])
 
 -- the block at a ended; the table is emptied once nothing is live
-abbrev pub after-free : List Header → ℕ → List Header
-after-free t a = cond (none-live (ended t 0 a)) [] (ended t 0 a)
+abbrev pub table-freed : List Header → ℕ → List Header
+table-freed t a = cond (none-live (ended t 0 a)) [] (ended t 0 a)
 
 -- the table after a history of accepted calls on a heap that began with none
 abbrev pub table-after : History → List Header
 table-after [] = []
-table-after (granted n a c ∷ h) = after-grant (table-after h) c
-table-after (freed a ∷ h) = after-free (table-after h) a
+table-after (granted n a c ∷ h) = table-granted (table-after h) c
+table-after (freed a ∷ h) = table-freed (table-after h) a
 table-after (filled a c v ∷ h) = table-after h
 table-after (relieved ∷ h) = table-after h
 
@@ -158,14 +158,14 @@ pub record Struck (a : ℕ) (xs ys : List ℕ) : Type 0 where
 -- an accepted allocate: the block's header stands at the cursor, and the cursor goes to the block's end
 pub record Grant (cursor : ℕ) (b : Block) (xs ys : List ℕ) : Type 0 where
   pub headed : Headed cursor (b .1) xs ys
-  pub table : table ys (b .0 + b .1) ≡ after-grant (table xs cursor) (b .1)
+  pub table : table ys (b .0 + b .1) ≡ table-granted (table xs cursor) (b .1)
 
 -- an accepted free: the cursor stays, or is 0 once nothing is live
 pub record Strike (a cursor next : ℕ) (xs ys : List ℕ) : Type 0 where
   pub was : 0 < live-in (table xs cursor) 0 a
   pub struck : Struck a xs ys
   pub moved : next ≡ cond (none-live (ended (table xs cursor) 0 a)) 0 cursor
-  pub table : table ys next ≡ after-free (table xs cursor) a
+  pub table : table ys next ≡ table-freed (table xs cursor) a
 
 -- an accepted fill: its bytes, at least one, lie in one live block, and no header changes
 pub record Paint (a c v cursor : ℕ) (xs ys : List ℕ) : Type 0 where
