@@ -2,4 +2,6 @@
 #[cfg(test)]
 mod bump_cases;
 #[cfg(test)]
+mod free_list_cases;
+#[cfg(test)]
 mod layer_cases;
