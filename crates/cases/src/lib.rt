@@ -5,3 +5,5 @@ mod bump_cases;
 mod free_list_cases;
 #[cfg(test)]
 mod layer_cases;
+#[cfg(test)]
+mod pair_cases;

@@ -67,7 +67,7 @@ abbrev pub freed-in-turn : List ℕ → History → History
 freed-in-turn [] h = h
 freed-in-turn (a ∷ xs) h = freed-in-turn xs (freed a ∷ h)
 
--- the calls that reach the heap below, from those held at the start: a block served again is filled with 0, any other is granted there for the rounded size; a block is freed there only while 16 are held; and relief frees the held ones oldest first, then relieves
+-- the calls that reach the heap below, from those held at the start: a block served again is filled with 0, any other is granted there for the rounded size; a block is freed there only where 16 are held already; and relief frees the held ones oldest first, then relieves
 abbrev pub sent-below : (ℕ → ℕ) → List ℕ → History → History
 sent-below rounds start [] = []
 sent-below rounds start (granted n a c ∷ h) = cond (among a (held-after start h)) (filled a c 0) (granted (rounds n) a c) ∷ sent-below rounds start h
@@ -87,7 +87,7 @@ pub record FreeListKeeps (rounds : ℕ → ℕ) (start : List ℕ) (began : ℕ 
   pub all-live : AllLive start began → AllLive held live
   -- each block that the history granted is at least as long as its size rounded
   pub long : (a : ℕ) → 0 < size-at h a → rounds (size-at h a) ≤ unheld held live a
-  -- and then the heap below keeps the calls that reached it
+  -- and on the same condition the heap below keeps the calls that reached it
   pub below : AllLive start began → keeps (sent-below rounds start h)
 
 -- a block that came from below is held no more; a refusal leaves the table

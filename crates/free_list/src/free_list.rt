@@ -11,7 +11,6 @@ ghost use Rattle.free_list.specs.Holdings.{without};
 ghost use Rattle.free_list.specs.FreeLists.{asked, newest, unheld, freed-in-turn, AllLive, Released, TakesOut, ServesNext, Exchanges};
 ghost use Rattle.free_list.specs.FreeList.{listed, free-list-means, free-list-keeps};
 use crate::held::Held;
-use crate::held::MOST;
 use heap::checks::admit;
 use heap::checks::check_fill;
 use heap::checks::check_free;
@@ -24,6 +23,9 @@ use heap::interface::Heap;
 use heap::interface::Meant;
 use heap::interface::length_at;
 use heap::rounding::Rounding;
+
+// How many blocks are held at most: the table has room for as many.
+const MOST: usize = 16;
 
 #[derive(Drop)]
 pub struct FreeList<H, R> {
@@ -121,7 +123,7 @@ impl<H: Heap, R: Rounding> FreeList<H, R> {
 
     // Frees the block that begins at `a`: it is held, or freed below where 16 are held already.
     //
-    // `serves`: where fewer than 16 were held, and by what the free list has kept over the client's history the block was granted for a size, every next offer of 1 byte up to that size rounded is this block, whole.
+    // `serves`: take any history that the free list has kept up to here, in which the block at `a` was granted for some size. If fewer than 16 were held, then the next offer for any size from 1 to that size rounded is this block, whole. The laws of a rounding give this, whichever rounding it is.
     pub fn give_back(&mut self, a: u32) -> Result<(), Fault>
         ensures answer { λ r. ⌜ MayFree Kind.FreeList (free-list-means (R·Rounding .largest) (R·Rounding .rounds) (H·Meant .means) (now (self .entry)) .live) a r ⌝ }
         ensures after { λ r. ⌜ Frees a (free-list-means (R·Rounding .largest) (R·Rounding .rounds) (H·Meant .means) (now (self .entry))) (free-list-means (R·Rounding .largest) (R·Rounding .rounds) (H·Meant .means) (now (self .exit))) r ⌝ }
@@ -138,7 +140,7 @@ impl<H: Heap, R: Rounding> FreeList<H, R> {
 
     // Frees the block that begins at `a`, then allocates `n` bytes, and gives both answers.
     //
-    // `serves`: where fewer than 16 were held, and by what the free list has kept over the client's history the block was granted for a size that is rounded to `n` or more, the second answer is this block again, whole.
+    // `serves`: under the same conditions, and for `n` from 1 to that size rounded, the second answer is this block again, whole.
     pub fn exchange(&mut self, a: u32, n: u32) -> (Result<(), Fault>, Result<(u32, u32), Fault>)
         ensures after { λ r. ⌜ Exchanges a n (free-list-means (R·Rounding .largest) (R·Rounding .rounds) (H·Meant .means) (now (self .entry))) (free-list-means (R·Rounding .largest) (R·Rounding .rounds) (H·Meant .means) (now (self .exit))) (r .0) (r .1) ⌝ }
         ensures kept { λ r. ⌜ ((from : FreeList H R) (h : History) → free-list-keeps (R·Rounding .rounds) (H·Meant .means) (H·Meant .keeps) from h (now (self .entry)) → free-list-keeps (R·Rounding .rounds) (H·Meant .means) (H·Meant .keeps) from (after-allocate n (r .1) (after-free a (r .0) h)) (now (self .exit))) ⌝ }

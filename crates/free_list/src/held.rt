@@ -6,13 +6,10 @@ ghost use Prim.Native.Nat.{_≤_, _<_};
 ghost use lib.ListN.{take, getD, length};
 ghost use Rattle.free_list.specs.Holdings.{among, distinct, without, with-newest};
 
-// How many addresses there is room for.
-pub(crate) const MOST: usize = 16;
-
 // The first `count` slots are the addresses; what stands behind them does not matter.
 #[derive(Drop)]
 pub(crate) struct Held {
-    slots: [u32; MOST],
+    slots: [u32; 16],
     count: usize,
     ghost few: { count ≤ 16 },
     ghost apart: { distinct (take count slots) ≡ true },
@@ -23,7 +20,7 @@ impl Held {
         ensures { λ r. ⌜ take (r .count) (r .slots) ≡ [] ⌝ }
     {
         Held {
-            slots: [0; MOST],
+            slots: [0; 16],
             count: 0,
         }
     }

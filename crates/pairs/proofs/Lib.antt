@@ -1,0 +1,4 @@
+pub mod Shares
+pub mod Paired
+pub mod Calling
+pub mod Sent
