@@ -1,4 +1,4 @@
-// Pairs of bump heaps, piles of pairs, and a pair too large for its second heap.
+// Pairs of bump heaps, and pairs of pairs.
 use bump::Bump;
 use bump::BumpHeap;
 use bump::BumpMeant;
@@ -84,45 +84,4 @@ fn pairs_of_pairs() -> Result<(), Fail> {
     check_eq(heap.allocate(24), Err(full))?;
     check_eq(heap.free(104), Ok(()))?;
     check_eq(heap.find(140), Some((136, 24)))
-}
-
-const REGION: usize = 65536;
-
-fn two<A: Heap, B: Heap>(first: A, second: B) -> Fallback<A, B> {
-    Fallback::new(first, second)
-}
-
-// Sixteen heaps of 65,536 addresses are as many as a pile may have; a seventeenth is shut.
-#[test]
-fn too_large_a_pair() -> Result<(), Fail> {
-    let mut r = [[0u8; REGION]; 17];
-    let [a, b, c, d, e, f, g, h, i, j, k, l, m, n, o, p, last] = &mut r;
-    let ad = two(
-        two(Bump::new(a), Bump::new(b)),
-        two(Bump::new(c), Bump::new(d)),
-    );
-    let eh = two(
-        two(Bump::new(e), Bump::new(f)),
-        two(Bump::new(g), Bump::new(h)),
-    );
-    let il = two(
-        two(Bump::new(i), Bump::new(j)),
-        two(Bump::new(k), Bump::new(l)),
-    );
-    let mp = two(
-        two(Bump::new(m), Bump::new(n)),
-        two(Bump::new(o), Bump::new(p)),
-    );
-    let all = two(two(ad, eh), two(il, mp));
-    check_eq(all.span(), 1048576)?;
-    let mut heap = Segregator::new(all, Bump::new(last), 8);
-    check_eq(heap.span(), 1048576)?;
-    check_eq(heap.allocate(8), Ok((8, 8)))?;
-    let shut = Fault {
-        cause: Cause::Shut,
-        kind: Kind::Segregator,
-        down: 0,
-        place: 9,
-    };
-    check_eq(heap.allocate(9), Err(shut))
 }

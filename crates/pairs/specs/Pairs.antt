@@ -71,9 +71,11 @@ pair-offer k choose m₁ m₂ n = and-then (admitted 32768 k n) (λ q. choose q 
 abbrev pub paired : Kind → Choice → Meaning → Meaning → Meaning
 paired k choose m₁ m₂ = record { kind = k; span = pair-span m₁ m₂; live = pair-live m₁ m₂; byte = pair-byte m₁ m₂; offer = pair-offer k choose m₁ m₂ }
 
+-- a segregator's meaning, by its threshold
 abbrev pub segregated : ℕ → Meaning → Meaning → Meaning
 segregated threshold = paired SegregatorK (by-size threshold)
 
+-- a fallback's meaning
 abbrev pub fallen-back : Meaning → Meaning → Meaning
 fallen-back = paired FallbackK by-refusal
 

@@ -1,7 +1,6 @@
 // Two heaps side by side, which is what a segregator and a fallback share: the first has the addresses below its span, the second those from there on.
 ghost use mathlib.Core.Path.{_≡_};
 ghost use mathlib.Core.List.{_∷_};
-ghost use Rattle.heap.specs.declared.fault.Kind.{Kind as KindOf};
 ghost use Rattle.heap.specs.Histories.{History, after-allocate, after-free, after-fill, relieved};
 ghost use Rattle.heap.specs.Meaning.{Finds, Gets, MayFree, MayFill, Stays, Allocates, Frees, Fills};
 ghost use Rattle.pairs.specs.Pairs.{Choice, both-fit, pair-span, pair-live, pair-byte, checked-open, first-offer, second-offer};
@@ -107,7 +106,7 @@ impl<A: Heap, B: Heap> Pair<A, B> {
     // Allocates in the first heap.
     pub fn allocate_first(&mut self, n: u32) -> Result<(u32, u32), Fault>
         ensures answer { λ r. ⌜ r ≡ first-offer (A·Meant .means (now (self .entry) .first)) n ⌝ }
-        ensures after { λ r. ⌜ ((k : KindOf) (choose : Choice) → Allocates (pair-means (A·Meant .means) (B·Meant .means) k choose (now (self .entry))) (pair-means (A·Meant .means) (B·Meant .means) k choose (now (self .exit))) r) ⌝ }
+        ensures after { λ r. ⌜ ((k : Kind) (choose : Choice) → Allocates (pair-means (A·Meant .means) (B·Meant .means) k choose (now (self .entry))) (pair-means (A·Meant .means) (B·Meant .means) k choose (now (self .exit))) r) ⌝ }
         ensures kept { λ r. ⌜ ((from : Pair A B) (h : History) → PairKeeps (A·Meant .means) (A·Meant .keeps) (B·Meant .keeps) from h (now (self .entry)) → PairKeeps (A·Meant .means) (A·Meant .keeps) (B·Meant .keeps) from (after-allocate n r h) (now (self .exit))) ⌝ }
     {
         hand_up(self.first.allocate(n))
@@ -157,7 +156,7 @@ impl<A: Heap, B: Heap> Pair<A, B> {
 
     // Relief reaches both heaps, a shut one too.
     pub fn relief(&mut self)
-        ensures after { λ _. ⌜ ((k : KindOf) (choose : Choice) → Stays (pair-means (A·Meant .means) (B·Meant .means) k choose (now (self .entry))) (pair-means (A·Meant .means) (B·Meant .means) k choose (now (self .exit)))) ⌝ }
+        ensures after { λ _. ⌜ ((k : Kind) (choose : Choice) → Stays (pair-means (A·Meant .means) (B·Meant .means) k choose (now (self .entry))) (pair-means (A·Meant .means) (B·Meant .means) k choose (now (self .exit)))) ⌝ }
         ensures kept { λ _. ⌜ ((from : Pair A B) (h : History) → PairKeeps (A·Meant .means) (A·Meant .keeps) (B·Meant .keeps) from h (now (self .entry)) → PairKeeps (A·Meant .means) (A·Meant .keeps) (B·Meant .keeps) from (relieved ∷ h) (now (self .exit))) ⌝ }
     {
         self.first.relief();

@@ -1,6 +1,9 @@
-// A tour of a pile of six layers: makes a list of calls on it and prints each one with its answer, then the live blocks, and last a block between the marks of an affix.
+// A tour of a pile of six layers: makes a list of calls on it and prints each one with its answer, then the live blocks; a block between the marks of an affix; and a boundary tag heap that joins three chunks.
 mod words;
 
+use boundary_tag::BoundaryTag;
+use boundary_tag::TagHeap;
+use boundary_tag::TagMeant;
 use bump::Bump;
 use bump::BumpHeap;
 use bump::BumpMeant;
@@ -44,9 +47,7 @@ const LARGE: usize = 160;
 
 const LAST: usize = 128;
 
-const CALLS: usize = 26;
-
-const SCRIPT: [Call; CALLS] = [
+const SCRIPT: [Call; 26] = [
     Call::Span,
     // up to 64 bytes: the free list
     Call::Allocate(20),
@@ -78,6 +79,33 @@ const SCRIPT: [Call; CALLS] = [
     Call::Get(272),
 ];
 
+// The lowest chunk that fits serves, and a free joins its chunk with both neighbours.
+const CHUNKS: [Call; 9] = [
+    Call::Allocate(16),
+    Call::Allocate(24),
+    Call::Allocate(16),
+    Call::Free(8),
+    Call::Free(80),
+    Call::Offer(8),
+    Call::Offer(30),
+    Call::Free(40),
+    Call::Offer(112),
+];
+
+// Writes the calls of a script into the steps, makes them and prints them.
+fn show<H: Heap>(
+    rt: &LibcRuntime,
+    heap: &mut H,
+    steps: &mut [Step],
+    script: &[Call],
+) -> Result<(), AnyError> {
+    for (step, call) in steps.iter_mut().zip(script.iter()) {
+        *step = Step::new(*call);
+    }
+    run(heap, steps);
+    print_steps(rt, steps)
+}
+
 // Small sizes from a free list, large ones under a quota from marked blocks, or from a last heap once those are full. The bottoms come as parameters: the checker does not cover a function in which a layer stands over a free list over a lent region.
 fn tour_pile<A: Heap + Drop, B: Heap + Drop, C: Heap + Drop>(
     rt: &LibcRuntime,
@@ -88,13 +116,18 @@ fn tour_pile<A: Heap + Drop, B: Heap + Drop, C: Heap + Drop>(
     let reused = FreeList::new(Rounded::new(small, Power), Grain);
     let marked = Fallback::new(Affix::new(large), last);
     let mut pile = Segregator::new(reused, Quota::new(marked, LIMIT), THRESHOLD);
-    let mut steps = [Step::new(Call::Relief); CALLS];
-    for (step, call) in steps.iter_mut().zip(SCRIPT.iter()) {
-        *step = Step::new(*call);
-    }
-    run(&mut pile, &mut steps);
-    print_steps(rt, &steps)?;
+    let mut steps = [Step::new(Call::Relief); 26];
+    show(rt, &mut pile, &mut steps, &SCRIPT)?;
     print_blocks(rt, &pile)
+}
+
+// Chunks that are split, and three of them joined.
+fn tour_chunks(rt: &LibcRuntime) -> Result<(), AnyError> {
+    let mut region = [0u8; 128];
+    let mut heap = BoundaryTag::new(&mut region);
+    println!(rt, "boundary tag on 128 bytes")?;
+    let mut steps = [Step::new(Call::Relief); 9];
+    show(rt, &mut heap, &mut steps, &CHUNKS)
 }
 
 // Whether a block's marks are as they were written.
@@ -131,7 +164,8 @@ fn tour(rt: &LibcRuntime) -> Result<(), AnyError> {
         Bump::new(&mut large),
         Bump::new(&mut last),
     )?;
-    tour_marks(rt)
+    tour_marks(rt)?;
+    tour_chunks(rt)
 }
 
 fn main(rt: LibcRuntime) -> Result<(), AnyError> {
