@@ -1,4 +1,6 @@
 // A bitmap heap: it hands out whole cells of a lent region, and knows by two maps which cells are used and which begin a block.
+#![tactic(auto)]
+
 ghost use Rattle.std.specs.Prelude.{◌≡◌, ℕ, false};
 ghost use Rattle.heap.specs.Meaning.{NothingLive};
 ghost use Rattle.bitmap.specs.Words.{bit_in};

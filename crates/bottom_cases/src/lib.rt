@@ -1,4 +1,6 @@
 // Worked cases of the bitmap and the boundary tag heap, each run on real regions.
+#![tactic(auto)]
+
 #[cfg(test)]
 mod bitmap_cases;
 #[cfg(test)]

@@ -1,4 +1,6 @@
 // A boundary tag heap, after Knuth: chunks with a tag at either end, the lowest that fits, and neighbours joined when one is freed.
+#![tactic(auto)]
+
 ghost use Rattle.heap.specs.Meaning.{NothingLive};
 ghost use Rattle.boundary_tag.specs.Chunks.{tag_means, TagKeeps, Fresh};
 

@@ -1,4 +1,6 @@
 // A bump heap: it hands out a lent region's bytes in turn, and starts over once all blocks are given back.
+#![tactic(auto)]
+
 ghost use Rattle.std.specs.Prelude.{◌≡◌};
 ghost use Rattle.heap.specs.Meaning.{NothingLive};
 ghost use Rattle.bump.specs.Table.{bump_means, BumpKeeps};

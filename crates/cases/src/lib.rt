@@ -1,4 +1,6 @@
 // Worked cases of the rules, each run on real heaps.
+#![tactic(auto)]
+
 #[cfg(test)]
 mod bump_cases;
 #[cfg(test)]

@@ -1,10 +1,10 @@
 -- The book and the live blocks agree after each accepted call.
-use Rattle.std.proofs.Common.{◌≡◌, ℕ, suc, ◌+◌, ◌<◌, ◌≤◌, Bool, true, false, cond, eqb, leb, ◌⊎◌, List, [], ◌∷◌, ◌++◌, Ok, Err, Result, sym, refl, ap, ◌∙◌, subst, inl, inr, ⊎_elim, arith}
+use Rattle.std.proofs.Common.{◌≡◌, ℕ, ◌+◌, ◌<◌, ◌≤◌, cond, eqb, ◌⊎◌, [], ◌∷◌, Ok, Err, Result, sym, ap, ◌∙◌, subst, inl, inr, ⊎_elim, arith}
 use Rattle.heap.specs.declared.fault.Fault.{Fault}
 use Rattle.heap.specs.Meaning.{Meaning, Block, Lawful, In, Sits, Apart, Stays, Granted, Freed, Filled, Allocates, Frees, Fills, NothingLive}
-use Rattle.heap.specs.Histories.{History, Event, granted, freed, filled, relieved, Booked, length_at, size_at, byte_at, over, after_allocate, after_free, after_fill}
+use Rattle.heap.specs.Histories.{History, granted, freed, filled, relieved, Booked, length_at, byte_at, over, after_allocate, after_free, after_fill}
 use Rattle.heap.specs.Runs.{Upheld}
-use Rattle.std.proofs.lemmas.Bool.{cond-true, cond-false, eq-eqb, ne_eqb, cases_eq, cases_lt}
+use Rattle.std.proofs.lemmas.Bool.{cond-false, ne_eqb, cases_eq, cases_lt}
 
 pub over_in : (a c x v w : ℕ) → In a c x → over a c x v w ≡ v
 over_in a c x v w i = let p = i.from in let q = i.below in grind arith

@@ -1,13 +1,13 @@
 -- What the tests of a call say of the live blocks.
-use Rattle.std.proofs.Common.{◌≡◌, ℕ, ◌+◌, ◌<◌, ◌≤◌, Bool, true, false, cond, eqb, leb, ◌⊎◌, Some, None, Ok, Err, Option, Result, sym, refl, ap, ◌∙◌, subst, inl, inr, ⊎_elim, arith}
+use Rattle.std.proofs.Common.{◌≡◌, ℕ, ◌+◌, ◌<◌, true, false, eqb, Some, None, Ok, Err, Option, Result, sym, ap, ◌∙◌, inl, inr, ⊎_elim, arith}
 use Rattle.heap.specs.declared.fault.Fault.{Fault}
 use Rattle.heap.specs.declared.fault.Kind.{Kind}
-use Rattle.heap.specs.declared.fault.Cause.TheVariants.{Zero, NotLive, Outside}
+use Rattle.heap.specs.declared.fault.Cause.TheVariants.{Outside}
 use Rattle.heap.specs.Faults.{raised}
-use Rattle.heap.specs.Meaning.{Meaning, Block, Lawful, In, Covered, Finds, MayFree, MayFill}
+use Rattle.heap.specs.Meaning.{Meaning, Block, Lawful, Covered, Finds, MayFree, MayFill}
 use Rattle.heap.specs.Checks.{begun, reached, checked_get, checked_free, checked_fill}
 use Rattle.heap.proofs.Lawful.{same_start, none_at, none_within}
-use Rattle.std.proofs.lemmas.Bool.{cond-true, cond-false, eq-eqb, ne_eqb, leb-true, leb-false, cases_eq, cases_lt, cases_Bool}
+use Rattle.std.proofs.lemmas.Bool.{cond-true, cond-false, eq-eqb, ne_eqb, leb-true, leb-false, cases_eq}
 
 -- what find told for a says whether a block begins there
 pub begun_is : (m : Meaning) → Lawful m → (a : ℕ) (r : Option Block) → Finds m.live a r → m.live a ≡ begun r a

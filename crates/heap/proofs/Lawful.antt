@@ -1,12 +1,12 @@
 -- What the laws of a heap say of its live blocks.
-use Rattle.std.proofs.Common.{◌≡◌, ℕ, ◌+◌, ◌-◌, ◌<◌, ◌≤◌, ◌⊎◌, ◌∷◌, Ok, Err, Result, sym, refl, ap, ◌∙◌, inl, inr, ⊎_elim, arith}
+use Rattle.std.proofs.Common.{◌≡◌, ℕ, ◌+◌, ◌<◌, ◌≤◌, ◌⊎◌, ◌∷◌, Ok, Err, Result, refl, ⊎_elim, arith}
 use Rattle.heap.specs.declared.fault.Fault.{Fault}
 use Rattle.heap.specs.declared.fault.Kind.{Kind}
 use Rattle.heap.specs.declared.fault.Cause.TheVariants.{Zero, Outside}
 use Rattle.heap.specs.Faults.{raised}
-use Rattle.heap.specs.Meaning.{Meaning, Block, Lawful, In, Covered, Finds, Same, MayFill, Fills, Filled}
+use Rattle.heap.specs.Meaning.{Meaning, Block, Lawful, In, Covered, Same, MayFill, Fills, Filled}
 use Rattle.heap.specs.Histories.{History, filled, after_fill}
-use Rattle.std.proofs.lemmas.Bool.{cases_eq, cases_lt}
+use Rattle.std.proofs.lemmas.Bool.{cases_lt}
 
 -- two live blocks that share an address are one
 pub same_start : (m : Meaning) → Lawful m → (a b x : ℕ) → In a (m.live a) x → In b (m.live b) x → a ≡ b

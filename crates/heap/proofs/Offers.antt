@@ -1,5 +1,5 @@
 -- Offers behind the tests of a size, and a layer that changes offers alone.
-use Rattle.std.proofs.Common.{◌≡◌, ℕ, ◌+◌, ◌<◌, ◌≤◌, min, cond, eqb, leb, ◌⊎◌, Ok, Err, Result, sym, refl, ap, ◌∙◌, subst, inl, inr, ⊎_elim, arith, lit≤}
+use Rattle.std.proofs.Common.{◌≡◌, ℕ, ◌<◌, ◌≤◌, Ok, Err, Result, refl, ap, ◌∙◌, subst, inl, inr, ⊎_elim, arith, lit≤}
 use mathlib.Core.Logic.{∥∥₁_map}
 use Rattle.heap.specs.declared.fault.Fault.{Fault}
 use Rattle.heap.specs.declared.fault.Kind.{Kind}
@@ -7,7 +7,7 @@ use Rattle.heap.specs.declared.fault.Cause.{Cause}
 use Rattle.heap.specs.declared.fault.Cause.TheVariants.{Zero, TooLarge, Outside}
 use Rattle.heap.specs.Faults.{raised, handed_up, up, own, and_then}
 use Rattle.heap.specs.Checks.{admitted}
-use Rattle.heap.specs.Meaning.{Meaning, Block, Lawful, HeapKind, HeapFault, OfferCause, In, Covered, Stays, Same, SameOffers, Granted, Freed, Filled, Gets, MayFree, MayFill, Allocates, Frees, Fills, with_offers}
+use Rattle.heap.specs.Meaning.{Meaning, Block, Lawful, HeapKind, HeapFault, OfferCause, Covered, Stays, Same, SameOffers, Granted, Freed, Gets, MayFree, MayFill, Frees, Fills, with_offers}
 use Rattle.heap.specs.Histories.{History, after_free, after_fill}
 use Rattle.std.proofs.lemmas.Bool.{cases_eq, cases_lt}
 

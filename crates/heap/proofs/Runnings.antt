@@ -1,5 +1,5 @@
 -- A run one step longer, and what a run does to the book.
-use Rattle.std.proofs.Common.{◌≡◌, ℕ, zero, suc, ◌+◌, ◌<◌, ◌≤◌, List, [], ◌∷◌, ◌++◌, length, get_or, set, Ok, Err, Result, sym, refl, ap, ◌∙◌, subst, arith}
+use Rattle.std.proofs.Common.{◌≡◌, ℕ, zero, suc, ◌<◌, List, [], ◌∷◌, ◌++◌, length, get_or, set, sym, refl, ap, subst, arith}
 use Rattle.heap.specs.declared.fault.Kind.{Kind}
 use Rattle.heap.specs.declared.calls.Call.{Call}
 use Rattle.heap.specs.declared.calls.Call.TheVariants.{Span}

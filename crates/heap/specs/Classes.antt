@@ -1,5 +1,5 @@
 -- Rounding to the sizes of an ascending list.
-use Rattle.std.specs.Prelude.{◌≡◌, ℕ, zero, suc, ◌+◌, ◌*◌, ◌/◌, ◌^◌, ◌<◌, ◌≤◌, max, ◌⊎◌, List, [], ◌∷◌, nat_le, refl}
+use Rattle.std.specs.Prelude.{◌≡◌, ℕ, zero, suc, ◌+◌, ◌*◌, ◌/◌, ◌^◌, ◌<◌, ◌≤◌, max, List, [], ◌∷◌, nat_le, refl}
 use Rattle.std.proofs.Common.{sym, ◌∙◌, ap, ⊎_elim, lit<, lit≤, add-one, pow_mono, arith}
 use Rattle.std.proofs.Math.Nat.{pow-succ'}
 use Rattle.heap.specs.Roundings.{LawfulRounding, up_to_largest, least_in, doubles, power}

@@ -1,4 +1,6 @@
 // The piles that a trace may name, and the replay of a trace on its own pile.
+#![tactic(auto)]
+
 ghost use Rattle.std.specs.Prelude.{◌≡◌};
 ghost use Rattle.trace.specs.Frames.{frames_of};
 ghost use Rattle.piles.specs.Piles.{Reusing, Splitting, OnPile, OnOwnPile, Answers, first_number};

@@ -1,4 +1,6 @@
 // The bytes of a lent region: numbers of four bytes, painting, and how much of the region is used.
+#![tactic(auto)]
+
 ghost use Rattle.std.specs.Prelude.{◌≡◌, ◌+◌, ◌<◌, ◌≤◌, length};
 ghost use Rattle.region.specs.Bytes.{word_at, put_word, Painted, span_of};
 

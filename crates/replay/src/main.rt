@@ -1,4 +1,6 @@
 // Replays a recorded trace: a trace on standard input, its report on standard output.
+#![tactic(auto)]
+
 mod input;
 
 use anyhow::anyhow;

@@ -1,4 +1,6 @@
 // A tour of a pile of six layers: makes a list of calls on it and prints each one with its answer, then the live blocks; a block between the marks of an affix; and a boundary tag heap that joins three chunks.
+#![tactic(auto)]
+
 mod words;
 
 use boundary_tag::BoundaryTag;

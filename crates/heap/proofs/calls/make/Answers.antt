@@ -1,4 +1,4 @@
-use Rattle.heap.specs.Runs.{Answered, allocated, freed, filled, eased, spanned, offered, found, got}
+use Rattle.heap.specs.Runs.{allocated, freed, filled, eased, spanned, offered, found, got}
 use Rattle.heap.proofs.calls.make.Goals as goal
 
 pub returns-in-Allocate : goal.returns-in-Allocate

@@ -1,4 +1,4 @@
-use Rattle.std.proofs.Common.{◌≡◌, ℕ, suc, ◌+◌, ◌<◌, ◌≤◌, List, [], ◌∷◌, ◌++◌, length, get_or, take, set, sym, refl, ap, ◌∙◌, subst, add-one, arith, take_all, take-suc-set}
+use Rattle.std.proofs.Common.{◌≡◌, ℕ, ◌+◌, ◌<◌, List, [], ◌∷◌, ◌++◌, length, get_or, take, set, sym, refl, ap, ◌∙◌, subst, add-one, arith, take_all, take-suc-set}
 use Rattle.heap.specs.declared.calls.Step.{Step}
 use Rattle.heap.specs.declared.calls.Call.TheVariants.{Allocate}
 use Rattle.heap.specs.declared.calls.Answer.TheVariants.{Nothing}
