@@ -1,5 +1,5 @@
 -- What the values of a pair, a segregator and a fallback mean and keep, over their two heaps.
-use Rattle.std.specs.Prelude.{◌≡◌, ℕ}
+use Rattle.std.specs.Prelude.{◌≡◌}
 use Rattle.pairs.specs.declared.pair.Pair.{Pair}
 use Rattle.pairs.specs.declared.segregator.Segregator.{Segregator}
 use Rattle.pairs.specs.declared.fallback.Fallback.{Fallback}

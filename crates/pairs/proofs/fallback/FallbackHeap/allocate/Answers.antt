@@ -1,4 +1,4 @@
-use Rattle.std.proofs.Common.{◌≡◌, Result, sym, ap, ◌∙◌}
+use Rattle.std.proofs.Common.{Result, sym, ap, ◌∙◌}
 use Rattle.heap.specs.declared.fault.Fault.{Fault}
 use Rattle.heap.specs.declared.fault.Kind.TheVariants.{Fallback as FallbackK}
 use Rattle.heap.specs.Meaning.{Block}
@@ -14,7 +14,7 @@ returns-in-Ok g c =
     let n = c.args.n in
     let e = c.in-Ok.ensures in
     record {
-      answer = ap (λ (z : Result Block Fault). by_refusal n z (second_offer FallbackK m₁ m₂ n)) e.answer ∙ sym (chosen FallbackK by_refusal m₁ m₂ n _ (sym c.admit.ensures ∙ c.in-ok-admit.was));
+      answer = ap (λ (z : Result Block Fault). by_refusal n z (second_offer FallbackK m₁ m₂ n)) e.answer ∙ sym (chosen FallbackK by_refusal m₁ m₂ n _ (sym c.admit.ensures ∙ c.in_ok-admit.was));
       after = e.after FallbackK by_refusal;
       kept = λ from h k. e.kept from.pair h k;
     }
@@ -22,16 +22,16 @@ returns-in-Ok g c =
 pub returns-in-Err : goal.returns-in-Err
 returns-in-Err g c =
     let s = c.args.self.now in
-    let s' = c.allocate-first.new.self in
+    let s' = c.allocate_first.new.self in
     let m₁ = g.A.Meant.means s.pair.first in
     let m₂ = g.B.Meant.means s.pair.second in
     let m₁' = g.A.Meant.means s'.first in
     let m₂' = g.B.Meant.means s'.second in
     let n = c.args.n in
     let e = c.in-Err.ensures in
-    let e' = c.allocate-second.ensures in
+    let e' = c.allocate_second.ensures in
     record {
-      answer = second_answer FallbackK m₁ m₂ m₁' m₂' n _ c.in-Err.field-0 c.allocate-second.result (sym c.admit.ensures ∙ c.in-ok-admit.was) e.answer (e.after FallbackK) e'.answer;
-      after = then_allocates (fallen_back m₁ m₂) (fallen_back m₁' m₂') _ c.allocate-second.result (e.after FallbackK by_refusal) (e'.after by_refusal);
+      answer = second_answer FallbackK m₁ m₂ m₁' m₂' n _ c.in-Err.field-0 c.allocate_second.result (sym c.admit.ensures ∙ c.in_ok-admit.was) e.answer (e.after FallbackK) e'.answer;
+      after = then_allocates (fallen_back m₁ m₂) (fallen_back m₁' m₂') _ c.allocate_second.result (e.after FallbackK by_refusal) (e'.after by_refusal);
       kept = λ from h k. e'.kept from.pair h (e.kept from.pair h k);
     }

@@ -1,4 +1,4 @@
-use Rattle.std.proofs.Common.{◌≡◌, Result, sym, ap, ◌∙◌, arith}
+use Rattle.std.proofs.Common.{Result, sym, ap, ◌∙◌, arith}
 use Rattle.heap.specs.declared.fault.Fault.{Fault}
 use Rattle.heap.specs.Faults.{up}
 use Rattle.heap.specs.Meaning.{Block}
@@ -16,7 +16,7 @@ returns g c =
     let n = c.args.n in
     let e = c.allocate.ensures in
     let r = c.allocate.result in
-    rw c.hand-up.ensures (record {
+    rw c.hand_up.ensures (record {
       answer = ap (λ (z : Result Block Fault). up z) e.answer;
       after = λ k choose. granted-first k choose m₁ _ (g.B.Meant.means s.second) w r (λ b q. (w.offered n b (sym e.answer ∙ q)).within) (λ b q. offered_below m₁ n b w (sym e.answer ∙ q)) e.after;
       kept = λ from h k.

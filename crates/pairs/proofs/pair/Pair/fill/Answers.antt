@@ -1,4 +1,4 @@
-use Rattle.std.proofs.Common.{◌≡◌, ℕ, ◌-◌, ◌<◌, ◌≤◌, sym, ◌∙◌, subst, arith}
+use Rattle.std.proofs.Common.{ℕ, ◌-◌, ◌<◌, ◌≤◌, sym, ◌∙◌, subst, arith}
 use Rattle.heap.specs.Meaning.{MayFill, Fills}
 use Rattle.heap.specs.Histories.{after_fill}
 use Rattle.heap.proofs.Agreeing.{fills_span}
@@ -25,11 +25,11 @@ returns-then-a-base g c =
     let e = c.fill.ensures in
     let r = c.fill.result in
     record {
-      answer = rw c.make-own.ensures (own-fill c.args.kind m₁.kind (pair_live m₁ m₂) m₁.live a a n (covered-low m₁.span o m₁.live m₂.live a n l) (low-covered m₁.span o m₁.live m₂.live a n l) r e.answer);
-      after = λ choose. rw c.make-own.ensures (filled-first c.args.kind choose m₁ _ m₂ (g.A.Meant.lawful s.first) m₁.kind a n b r e.answer e.after);
+      answer = rw c.make_own.ensures (own-fill c.args.kind m₁.kind (pair_live m₁ m₂) m₁.live a a n (covered-low m₁.span o m₁.live m₂.live a n l) (low-covered m₁.span o m₁.live m₂.live a n l) r e.answer);
+      after = λ choose. rw c.make_own.ensures (filled-first c.args.kind choose m₁ _ m₂ (g.A.Meant.lawful s.first) m₁.kind a n b r e.answer e.after);
       kept = λ from h k.
           let is = k.span in
-          rw (c.make-own.ensures, own_after_fill) (keeps_both g.A.Meant.means g.A.Meant.keeps g.B.Meant.keeps from _ _ _ _ (fills_span a n b r m₁ _ e.after ∙ is)
+          rw (c.make_own.ensures, own_after_fill) (keeps_both g.A.Meant.means g.A.Meant.keeps g.B.Meant.keeps from _ _ _ _ (fills_span a n b r m₁ _ e.after ∙ is)
           (fill-first _ a (omega arith) h n b r)
           (fill-not-second _ a (omega arith) h n b r)
           (e.kept from.first _ k.first)
@@ -48,18 +48,18 @@ returns g c =
     let t = c.if-a-base.false in
     let l : m₁.span ≤ a = omega arith in
     let o = both_fit m₁.span m₂.span in
-    let p = sym c.if-not-is-open.ensures in
+    let p = sym c.if-not-is_open.ensures in
     let w = g.A.Meant.lawful s.first in
     let e = c.fill-2.ensures in
     let r = c.fill-2.result in
     record {
-      answer = rw c.make-own-2.ensures (own-fill c.args.kind m₂.kind (pair_live m₁ m₂) m₂.live a (a - m₁.span) n
+      answer = rw c.make_own-2.ensures (own-fill c.args.kind m₂.kind (pair_live m₁ m₂) m₂.live a (a - m₁.span) n
           (covered-high m₁.span o m₁.live m₂.live (bounded m₁ w) a n l p) (high-covered m₁.span o m₁.live m₂.live a n l p) r
           (subst (λ (z : ℕ). MayFill m₂.kind m₂.live (a - z) n r) base e.answer));
-      after = λ choose. rw c.make-own-2.ensures (filled-second c.args.kind choose m₁ m₂ _ w a n b r l p (subst (λ (z : ℕ). Fills (a - z) n b m₂ (g.B.Meant.means c.fill-2.new.self) r) base e.after));
+      after = λ choose. rw c.make_own-2.ensures (filled-second c.args.kind choose m₁ m₂ _ w a n b r l p (subst (λ (z : ℕ). Fills (a - z) n b m₂ (g.B.Meant.means c.fill-2.new.self) r) base e.after));
       kept = λ from h k.
           let is = k.span in
-          rw (c.make-own-2.ensures, own_after_fill c.args.kind a a n b r h) (keeps_both g.A.Meant.means g.A.Meant.keeps g.B.Meant.keeps from _ _ _ _ is
+          rw (c.make_own-2.ensures, own_after_fill c.args.kind a a n b r h) (keeps_both g.A.Meant.means g.A.Meant.keeps g.B.Meant.keeps from _ _ _ _ is
           (fill-not-first _ a (omega arith) h n b r)
           (fill-second _ a (omega arith) h n b r)
           k.first

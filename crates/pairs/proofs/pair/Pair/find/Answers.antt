@@ -4,14 +4,14 @@ use Rattle.pairs.specs.Shares.{finds-none, finds-shut}
 use Rattle.pairs.specs.Paired.{bounded}
 use Rattle.pairs.proofs.pair.Pair.find.Goals as goal
 
-pub returns-then-not-is-open : goal.returns-then-not-is-open
-returns-then-not-is-open g c =
+pub returns-then-not-is_open : goal.returns-then-not-is_open
+returns-then-not-is_open g c =
     let s = c.args.self.now in
     let m₁ = g.A.Meant.means s.first in
     let m₂ = g.B.Meant.means s.second in
     let e = c.span-base.ensures in
     let l = c.if-a-base.false in
-    finds-shut m₁.span _ m₁.live m₂.live (bounded m₁ (g.A.Meant.lawful s.first)) c.args.a (omega arith) (sym c.if-not-is-open.ensures)
+    finds-shut m₁.span _ m₁.live m₂.live (bounded m₁ (g.A.Meant.lawful s.first)) c.args.a (omega arith) (sym c.if-not-is_open.ensures)
 
 pub returns-in-None : goal.returns-in-None
 returns-in-None g c =
@@ -20,5 +20,5 @@ returns-in-None g c =
     let m₂ = g.B.Meant.means s.second in
     let e = c.span-base.ensures in
     let l = c.if-a-base.false in
-    finds-none m₁.span _ m₁.live m₂.live (bounded m₁ (g.A.Meant.lawful s.first)) c.args.a (omega arith) (sym c.if-not-is-open.ensures)
+    finds-none m₁.span _ m₁.live m₂.live (bounded m₁ (g.A.Meant.lawful s.first)) c.args.a (omega arith) (sym c.if-not-is_open.ensures)
     (subst (λ (z : ℕ). Finds m₂.live (c.args.a - z) None) e c.in-None.ensures)

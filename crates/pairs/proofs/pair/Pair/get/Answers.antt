@@ -1,4 +1,4 @@
-use Rattle.std.proofs.Common.{◌≡◌, ℕ, ◌-◌, ◌<◌, ◌≤◌, sym, subst, arith}
+use Rattle.std.proofs.Common.{ℕ, ◌-◌, ◌<◌, ◌≤◌, sym, subst, arith}
 use Rattle.heap.specs.Meaning.{Gets}
 use Rattle.heap.proofs.Offers.{own-get}
 use Rattle.pairs.specs.Pairs.{both_fit, pair_live, pair_byte}
@@ -16,17 +16,17 @@ returns-then-a-base g c =
     let t = c.if-a-base.true in
     let l : a < m₁.span = omega arith in
     let o = both_fit m₁.span m₂.span in
-    rw c.make-own.ensures (own-get c.args.kind m₁.kind (pair_live m₁ m₂) m₁.live a a (pair_byte m₁ m₂) m₁.byte c.get.result
+    rw c.make_own.ensures (own-get c.args.kind m₁.kind (pair_live m₁ m₂) m₁.live a a (pair_byte m₁ m₂) m₁.byte c.get.result
     (covered-low m₁.span o m₁.live m₂.live a 1 l) (low-covered m₁.span o m₁.live m₂.live a 1 l) (sym (low m₁.span o m₁.byte m₂.byte a l)) c.get.ensures)
 
-pub returns-then-not-is-open : goal.returns-then-not-is-open
-returns-then-not-is-open g c =
+pub returns-then-not-is_open : goal.returns-then-not-is_open
+returns-then-not-is_open g c =
     let s = c.args.self.now in
     let m₁ = g.A.Meant.means s.first in
     let m₂ = g.B.Meant.means s.second in
     let e = c.span-base.ensures in
     let l = c.if-a-base.false in
-    (covered-shut m₁.span (both_fit m₁.span m₂.span) m₁.live m₂.live (bounded m₁ (g.A.Meant.lawful s.first)) c.args.a 1 (omega arith) (sym c.if-not-is-open.ensures) (omega arith), c.new.ensures)
+    (covered-shut m₁.span (both_fit m₁.span m₂.span) m₁.live m₂.live (bounded m₁ (g.A.Meant.lawful s.first)) c.args.a 1 (omega arith) (sym c.if-not-is_open.ensures) (omega arith), c.new.ensures)
 
 pub returns : goal.returns
 returns g c =
@@ -38,8 +38,8 @@ returns g c =
     let t = c.if-a-base.false in
     let l : m₁.span ≤ a = omega arith in
     let o = both_fit m₁.span m₂.span in
-    let p = sym c.if-not-is-open.ensures in
+    let p = sym c.if-not-is_open.ensures in
     let bound = bounded m₁ (g.A.Meant.lawful s.first) in
-    rw c.make-own-2.ensures (own-get c.args.kind m₂.kind (pair_live m₁ m₂) m₂.live a (a - m₁.span) (pair_byte m₁ m₂) m₂.byte c.get-2.result
+    rw c.make_own-2.ensures (own-get c.args.kind m₂.kind (pair_live m₁ m₂) m₂.live a (a - m₁.span) (pair_byte m₁ m₂) m₂.byte c.get-2.result
     (covered-high m₁.span o m₁.live m₂.live bound a 1 l p) (high-covered m₁.span o m₁.live m₂.live a 1 l p) (sym (high m₁.span o m₁.byte m₂.byte a l p))
     (subst (λ (z : ℕ). Gets m₂.kind m₂.live m₂.byte (a - z) c.get-2.result) e c.get-2.ensures))
