@@ -29,12 +29,18 @@ def own_names():
             if line.strip() and not line[0].isspace():
                 m = TOP.match(line)
                 head = line.split()
-                block = "record" if "record" in head[:2] else "data" if "data" in head[:2] else None
+                kinds = [k for k in ("record", "data", "module") if k in head[:2]]
+                block = kinds[0] if kinds else None
                 if not m or m.group(1) in WORDS:
                     continue
                 if answers and re.match(r"\s*(goal|Statement)\b", m.group(2)):
                     continue
                 names.add(m.group(1))
+            elif block == "module":
+                # what an unnamed module holds is indented by two
+                m = TOP.match(line[2:]) if re.match(r"  \S", line) else None
+                if m and m.group(1) not in WORDS:
+                    names.add(m.group(1))
             elif block:
                 m = INNER.match(line)
                 if m:

@@ -11,8 +11,8 @@ use Rattle.heap.proofs.Lawful.{offered_free}
 use Rattle.region.specs.Bytes.{Painted}
 use Rattle.bitmap.specs.Words.{inside}
 use Rattle.bitmap.specs.Cells.{Map, cells_of, cells_for, bitmap_live, bitmap_offer, bitmap_means, Marked, Unmarked, placed, seek, free_run, Sound, Release, Releases, used_after, first_after, BitmapKept, BitmapKeeps}
-use Rattle.bitmap.proofs.Rows.{Lives, lives, lives-used, live_none, live-odd, starts-free, starts-used, starts_first}
-use Rattle.bitmap.proofs.Laws.{Fresh, fresh, sound-lowest, bitmap_lawful, covered_span}
+use Rattle.bitmap.proofs.Rows.{Lives, lives, lives_used, live_none, live_odd, starts_free, starts_used, starts_first}
+use Rattle.bitmap.proofs.Laws.{Fresh, fresh, sound_lowest, bitmap_lawful, covered_span}
 use Rattle.bitmap.proofs.Changes.{mark-live, mark-covered, mark-begun, unmark-live, unmark-covered, unmark-begun}
 use Rattle.std.proofs.lemmas.Bool.{cases_eq, cases_Bool}
 
@@ -37,8 +37,8 @@ keeps_same zs v g h xs u f u' f' a b k = subst (λ (z : Map). BitmapKeeps zs v g
 clear_live : (u f : Map) (cells : ℕ) → ((x : ℕ) → u x ≡ false) → (a : ℕ) → bitmap_live u f cells a ≡ 0
 clear_live u f cells e a =
     ⊎_elim
-    (λ (m : a % 64 ≡ 0). let at : a ≡ 64 * (a / 64) = omega arith in ap (bitmap_live u f cells) at ∙ live_none u f cells (a / 64) (starts-free u f cells (a / 64) (e (a / 64))))
-    (λ (m : a % 64 ≡ 0 → ⊥). live-odd u f cells a m)
+    (λ (m : a % 64 ≡ 0). let at : a ≡ 64 * (a / 64) = omega arith in ap (bitmap_live u f cells) at ∙ live_none u f cells (a / 64) (starts_free u f cells (a / 64) (e (a / 64))))
+    (λ (m : a % 64 ≡ 0 → ⊥). live_odd u f cells a m)
     (cases_eq (a % 64) 0)
 
 never : {A : Type 0} (t : Bool) → t ≡ true → t ≡ false → A
@@ -75,14 +75,14 @@ module _ (h : History) (u f : Map) (cells : ℕ)
         let v = lives u f cells (64 * x) (omega arith) in
         let va = v.at in
         let q : x ≡ v.cell = omega arith in
-        ap u q ∙ starts-used u f cells v.cell v.starts;
+        ap u q ∙ starts_used u f cells v.cell v.starts;
     follows = λ x e g.
         let k = holds x e in
         let v = k.block in
         let kf = k.from in
         let kb = k.below in
         let less : v.cell < x = ⊎_elim (λ (q : x ≡ v.cell). never (f x) (ap f q ∙ starts_first u f cells v.cell v.starts) g) (λ (q : x ≡ v.cell → ⊥). omega arith) (cases_eq x v.cell) in
-        (omega arith, lives-used u f cells k.at (bitmap_live u f cells k.at) v (x - 1) (omega arith) (omega arith));
+        (omega arith, lives_used u f cells k.at (bitmap_live u f cells k.at) v (x - 1) (omega arith) (omega arith));
     past = λ x l.
         ⊎_elim
         (λ (e : u x ≡ true). absurd (let k = holds x e in let kb = k.below in let kw = k.block.within in let z : ⊥ = omega arith in z))
@@ -103,7 +103,7 @@ module _ (h : History) (u f : Map) (cells : ℕ)
         let v = lives u f cells a (omega arith) in
         let va = v.at in
         let vl = v.long in
-        lives-used u f cells a (bitmap_live u f cells a) v x (omega arith) (omega arith);
+        lives_used u f cells a (bitmap_live u f cells a) v x (omega arith) (omega arith);
     begun = begun;
     begins = λ x b.
         let l = live (64 * x) in
@@ -112,7 +112,7 @@ module _ (h : History) (u f : Map) (cells : ℕ)
         let q : x ≡ v.cell = omega arith in
         ap f q ∙ starts_first u f cells v.cell v.starts;
     sound = sound;
-    offer = λ n s. ap (placed n (cells_for n)) (sound-lowest u f cells (cells_for n) sound (omega arith) ∙ ap (λ (z : Map). seek (suc cells) (free_run z cells (cells_for n)) 0) (fun_ext used));
+    offer = λ n s. ap (placed n (cells_for n)) (sound_lowest u f cells (cells_for n) sound (omega arith) ∙ ap (λ (z : Map). seek (suc cells) (free_run z cells (cells_for n)) 0) (fun_ext used));
   }
 
 pub bitmap_begins : (xs : List ℕ) (u f : Map) → BitmapKeeps xs u f [] xs u f
@@ -130,8 +130,8 @@ module _ (xs ys : List ℕ) (u f u' f' : Map) (n : ℕ) (b : Block) (o : (bitmap
   new : Fresh u f cells n b
   new = fresh u f cells n b o
 
-  some-cells : 0 < cells_for n
-  some-cells = let some = new.some in omega arith
+  some_cells : 0 < cells_for n
+  some_cells = let some = new.some in omega arith
 
   marks : Marked new.cell (cells_for n) u f u' f'
   marks =
@@ -141,17 +141,17 @@ module _ (xs ys : List ℕ) (u f u' f' : Map) (n : ℕ) (b : Block) (o : (bitmap
       let l : b.1 / 64 ≡ cells_for n = omega arith in
       subst (λ (z : ℕ). Marked z (cells_for n) u f u' f') a (subst (λ (z : ℕ). Marked (b.0 / 64) z u f u' f') l m)
 
-  grant-live : (x : ℕ) → bitmap_live u' f' cells x ≡ cond (eqb x b.0) b.1 (bitmap_live u f cells x)
-  grant-live x =
-      mark-live u f u' f' cells new.cell (cells_for n) some-cells new.fits marks x
+  grant_live : (x : ℕ) → bitmap_live u' f' cells x ≡ cond (eqb x b.0) b.1 (bitmap_live u f cells x)
+  grant_live x =
+      mark-live u f u' f' cells new.cell (cells_for n) some_cells new.fits marks x
       ∙ ap (λ (z : ℕ). cond (eqb x z) (64 * cells_for n) (bitmap_live u f cells x)) (sym new.at)
       ∙ ap (λ (z : ℕ). cond (eqb x b.0) z (bitmap_live u f cells x)) (sym new.long)
 
-  pub bitmap-granted : Granted b.0 b.1 (bitmap_means xs u f) (bitmap_means ys u' f')
-  bitmap-granted = record {
+  pub bitmap_granted : Granted b.0 b.1 (bitmap_means xs u f) (bitmap_means ys u' f')
+  bitmap_granted = record {
     kind = refl;
     span = ap (λ (z : ℕ). 64 * cells_of z) p.long;
-    live = λ x. ap (λ (z : ℕ). bitmap_live u' f' (cells_of z) x) p.long ∙ grant-live x;
+    live = λ x. ap (λ (z : ℕ). bitmap_live u' f' (cells_of z) x) p.long ∙ grant_live x;
     clear = p.set;
     byte = λ a x i.
         let lo = i.from in
@@ -174,12 +174,12 @@ module _ (xs ys : List ℕ) (u f u' f' : Map) (n : ℕ) (b : Block) (o : (bitmap
     kept-granted = says (granted n b.0 b.1 ∷ h) u' f' cells
         (λ x. m.used x ∙ ap (λ (z : Bool). cond (inside (b.0 / 64) (b.1 / 64) x) true z) (k.used x))
         (λ x. m.first x ∙ ap (λ (z : Bool). cond (inside (b.0 / 64) 1 x) true (cond (inside (b.0 / 64) (b.1 / 64) x) false z)) (k.first x))
-        (λ a. grant-live a ∙ ap (λ (z : ℕ). cond (eqb a b.0) b.1 z) (k.live a))
-        (mark-covered u f u' f' cells new.cell (cells_for n) some-cells new.fits marks (length_at h) (length_at (granted n b.0 b.1 ∷ h)) book-none book-next k.covered)
-        (mark-begun u f u' f' cells new.cell (cells_for n) some-cells new.fits marks (length_at h) (length_at (granted n b.0 b.1 ∷ h)) book-none book-next k.begun)
+        (λ a. grant_live a ∙ ap (λ (z : ℕ). cond (eqb a b.0) b.1 z) (k.live a))
+        (mark-covered u f u' f' cells new.cell (cells_for n) some_cells new.fits marks (length_at h) (length_at (granted n b.0 b.1 ∷ h)) book-none book-next k.covered)
+        (mark-begun u f u' f' cells new.cell (cells_for n) some_cells new.fits marks (length_at h) (length_at (granted n b.0 b.1 ∷ h)) book-none book-next k.begun)
 
-  pub keeps-granted : (zs : List ℕ) (v g : Map) (h : History) → BitmapKeeps zs v g h xs u f → BitmapKeeps zs v g (granted n b.0 b.1 ∷ h) ys u' f'
-  keeps-granted zs v g h k = record {
+  pub keeps_granted : (zs : List ℕ) (v g : Map) (h : History) → BitmapKeeps zs v g h xs u f → BitmapKeeps zs v g (granted n b.0 b.1 ∷ h) ys u' f'
+  keeps_granted zs v g h k = record {
     long = p.long ∙ k.long;
     rest = λ x l.
         let w = ((bitmap_lawful xs u f).offered n b o).within in
@@ -207,13 +207,13 @@ module _ (xs : List ℕ) (u f u' f' : Map) (a : ℕ) where
         let l : bitmap_live u f count a / 64 ≡ old.end - old.cell = omega arith in
         subst (λ (z : ℕ). Unmarked z (old.end - old.cell) u f u' f') c (subst (λ (z : ℕ). Unmarked (a / 64) z u f u' f') l r.unmarked)
 
-    free-live : (x : ℕ) → bitmap_live u' f' count x ≡ cond (eqb x a) 0 (bitmap_live u f count x)
-    free-live x =
+    free_live : (x : ℕ) → bitmap_live u' f' count x ≡ cond (eqb x a) 0 (bitmap_live u f count x)
+    free_live x =
         unmark-live u f u' f' count old.cell old.end old.starts old.runs unmarks x
         ∙ ap (λ (z : ℕ). cond (eqb x z) 0 (bitmap_live u f count x)) (sym old.at)
 
     bitmap-freed : Freed a (bitmap_means xs u f) (bitmap_means xs u' f')
-    bitmap-freed = record { kind = refl; span = refl; live = free-live; byte = λ b x i. refl }
+    bitmap-freed = record { kind = refl; span = refl; live = free_live; byte = λ b x i. refl }
 
     module _ (h : History) (k : BitmapKept h u f count) where
       book-long : length_at h (64 * old.cell) ≡ 64 * (old.end - old.cell)
@@ -222,8 +222,8 @@ module _ (xs : List ℕ) (u f u' f' : Map) (a : ℕ) where
       book-left : (x : ℕ) → length_at (freed a ∷ h) x ≡ cond (eqb x (64 * old.cell)) 0 (length_at h x)
       book-left x = ap (λ (z : ℕ). cond (eqb x z) 0 (length_at h x)) old.at
 
-      kept-freed : BitmapKept (freed a ∷ h) u' f' count
-      kept-freed = says (freed a ∷ h) u' f' count
+      kept_freed : BitmapKept (freed a ∷ h) u' f' count
+      kept_freed = says (freed a ∷ h) u' f' count
           (λ x.
           r.unmarked.used x
           ∙ ap (λ (z : ℕ). cond (inside (a / 64) (z / 64) x) false (u x)) (k.live a)
@@ -232,17 +232,17 @@ module _ (xs : List ℕ) (u f u' f' : Map) (a : ℕ) where
           r.unmarked.first x
           ∙ ap (λ (z : ℕ). cond (inside (a / 64) (z / 64) x) false (f x)) (k.live a)
           ∙ ap (λ (z : Bool). cond (inside (a / 64) (length_at h a / 64) x) false z) (k.first x))
-          (λ y. free-live y ∙ ap (λ (z : ℕ). cond (eqb y a) 0 z) (k.live y))
+          (λ y. free_live y ∙ ap (λ (z : ℕ). cond (eqb y a) 0 z) (k.live y))
           (unmark-covered u f u' f' count old.cell old.end old.starts old.runs unmarks (length_at h) (length_at (freed a ∷ h)) book-long book-left k.covered)
           (unmark-begun u f u' f' count old.cell old.end old.starts old.runs unmarks (length_at h) (length_at (freed a ∷ h)) book-long book-left k.begun)
 
-    keeps-freed : (zs : List ℕ) (v g : Map) (h : History) → BitmapKeeps zs v g h xs u f → BitmapKeeps zs v g (freed a ∷ h) xs u' f'
-    keeps-freed zs v g h k = record {
+    keeps_freed : (zs : List ℕ) (v g : Map) (h : History) → BitmapKeeps zs v g h xs u f → BitmapKeeps zs v g (freed a ∷ h) xs u' f'
+    keeps_freed zs v g h k = record {
       long = k.long;
       rest = k.rest;
       kept = λ c d.
           subst (λ (z : ℕ). BitmapKept (freed a ∷ h) u' f' (cells_of z)) k.long
-          (kept-freed h (subst (λ (z : ℕ). BitmapKept h u f (cells_of z)) (sym k.long) (k.kept c d)));
+          (kept_freed h (subst (λ (z : ℕ). BitmapKept h u f (cells_of z)) (sym k.long) (k.kept c d)));
     }
 
   -- by the answer, and by the number of cells
@@ -255,14 +255,14 @@ module _ (xs : List ℕ) (u f u' f' : Map) (a : ℕ) where
     bitmap-frees (Ok t) s = bitmap-freed (subst (λ (z : ℕ). Release z a u f u' f') q s)
     bitmap-frees (Err g) s = bitmap_same xs u f u' f' s.2 s.3
 
-    pub keeps-frees : (zs : List ℕ) (v g : Map) (h : History) (r : Result (Unit {0}) Fault) → Releases cells a u f u' f' r → BitmapKeeps zs v g h xs u f → BitmapKeeps zs v g (after_free a r h) xs u' f'
-    keeps-frees zs v g h (Ok t) s k = keeps-freed (subst (λ (z : ℕ). Release z a u f u' f') q s) zs v g h k
-    keeps-frees zs v g h (Err y) s k = keeps_same zs v g h xs u f u' f' s.2 s.3 k
+    pub keeps_frees : (zs : List ℕ) (v g : Map) (h : History) (r : Result (Unit {0}) Fault) → Releases cells a u f u' f' r → BitmapKeeps zs v g h xs u f → BitmapKeeps zs v g (after_free a r h) xs u' f'
+    keeps_frees zs v g h (Ok t) s k = keeps_freed (subst (λ (z : ℕ). Release z a u f u' f') q s) zs v g h k
+    keeps_frees zs v g h (Err y) s k = keeps_same zs v g h xs u f u' f' s.2 s.3 k
 
 -- a fill
 module _ (xs ys : List ℕ) (u f : Map) (a c v : ℕ) (some : 0 < c) (k : Covered (bitmap_live u f (cells_of (length xs))) a c) (p : Painted a c v xs ys) where
-  pub bitmap-filled : Filled a c v (bitmap_means xs u f) (bitmap_means ys u f)
-  bitmap-filled = record {
+  pub bitmap_filled : Filled a c v (bitmap_means xs u f) (bitmap_means ys u f)
+  bitmap_filled = record {
     kind = refl;
     span = ap (λ (z : ℕ). 64 * cells_of z) p.long;
     live = λ x. ap (λ (z : ℕ). bitmap_live u f (cells_of z) x) p.long;
@@ -271,8 +271,8 @@ module _ (xs ys : List ℕ) (u f : Map) (a c v : ℕ) (some : 0 < c) (k : Covere
     offers = λ n. ap (λ (z : ℕ). and_then (admitted 32768 BitmapK n) (bitmap_offer u f (cells_of z))) p.long;
   }
 
-  pub keeps-filled : (zs : List ℕ) (w g : Map) (h : History) → BitmapKeeps zs w g h xs u f → BitmapKeeps zs w g (filled a c v ∷ h) ys u f
-  keeps-filled zs w g h r = record {
+  pub keeps_filled : (zs : List ℕ) (w g : Map) (h : History) → BitmapKeeps zs w g h xs u f → BitmapKeeps zs w g (filled a c v ∷ h) ys u f
+  keeps_filled zs w g h r = record {
     long = p.long ∙ r.long;
     rest = λ x l.
         let s = covered_span xs u f a c some k in

@@ -5,7 +5,7 @@ use Rattle.std.proofs.lemmas.Bool.{both_ways, cond-true, cond-false, eq-eqb, ne_
 use Rattle.bitmap.specs.Words.{inside}
 use Rattle.bitmap.specs.Cells.{Map, starts, goes_on, follow, Runs, bitmap_live, Fits, Marked, Unmarked}
 use Rattle.bitmap.proofs.Flips.{inside_yes, inside_before, inside_past}
-use Rattle.bitmap.proofs.Rows.{follow_runs, live-is, live_none, live-odd, starts-yes, starts-free, starts-inner, on-yes, on-past, on-free, on-begun, on-used, on-or-starts}
+use Rattle.bitmap.proofs.Rows.{follow_runs, live_is, live_none, live_odd, starts_yes, starts_free, starts_inner, on_yes, on_past, on_free, on_begun, on_used, on_or_starts}
 
 module _ (u f u' f' : Map) (cells : ℕ) where
   same_live : (p : ℕ) → starts u' f' cells p ≡ starts u f cells p → ((e : ℕ) → starts u f cells p ≡ true → Runs (goes_on u f cells) (p + 1) e → Runs (goes_on u' f' cells) (p + 1) e)
@@ -14,8 +14,8 @@ module _ (u f u' f' : Map) (cells : ℕ) where
       ⊎_elim
       (λ (t : starts u f cells p ≡ true).
       let e = p + 1 + follow cells (goes_on u f cells) (p + 1) in
-      let g : Runs (goes_on u f cells) (p + 1) e = follow_runs cells (goes_on u f cells) (p + 1) (λ x l. on-past u f cells x (omega arith)) in
-      live-is u' f' cells p e (s ∙ t) (h e t g) ∙ sym (live-is u f cells p e t g))
+      let g : Runs (goes_on u f cells) (p + 1) e = follow_runs cells (goes_on u f cells) (p + 1) (λ x l. on_past u f cells x (omega arith)) in
+      live_is u' f' cells p e (s ∙ t) (h e t g) ∙ sym (live_is u f cells p e t g))
       (λ (t : starts u f cells p ≡ false). live_none u' f' cells p (s ∙ t) ∙ sym (live_none u f cells p t))
       (cases_Bool (starts u f cells p))
 
@@ -29,17 +29,17 @@ module _ (u f u' f' : Map) (cells : ℕ) where
       (λ (m : x % 64 ≡ 0).
       let at : x ≡ 64 * (x / 64) = omega arith in
       ap (bitmap_live u' f' cells) at ∙ there (x / 64) (λ r. q (omega arith)) ∙ ap (bitmap_live u f cells) (sym at))
-      (λ (m : x % 64 ≡ 0 → ⊥). live-odd u' f' cells x m ∙ sym (live-odd u f cells x m))
+      (λ (m : x % 64 ≡ 0 → ⊥). live_odd u' f' cells x m ∙ sym (live_odd u f cells x m))
       (cases_eq (x % 64) 0)
       ∙ sym (cond-false (eqb x (64 * i)) l (bitmap_live u f cells x) (ne_eqb x (64 * i) q)))
       (cases_eq x (64 * i))
 
   -- a cell whose bits stayed
-  stayed-starts : (x : ℕ) → u' x ≡ u x → f' x ≡ f x → starts u' f' cells x ≡ starts u f cells x
-  stayed-starts x e g = ap (λ (z : Bool). ltb x cells && (z && f' x)) e ∙ ap (λ (z : Bool). ltb x cells && (u x && z)) g
+  stayed_starts : (x : ℕ) → u' x ≡ u x → f' x ≡ f x → starts u' f' cells x ≡ starts u f cells x
+  stayed_starts x e g = ap (λ (z : Bool). ltb x cells && (z && f' x)) e ∙ ap (λ (z : Bool). ltb x cells && (u x && z)) g
 
-  stayed-on : (x : ℕ) → u' x ≡ u x → f' x ≡ f x → goes_on u' f' cells x ≡ goes_on u f cells x
-  stayed-on x e g = ap (λ (z : Bool). ltb x cells && (z && not (f' x))) e ∙ ap (λ (z : Bool). ltb x cells && (u x && not z)) g
+  stayed_on : (x : ℕ) → u' x ≡ u x → f' x ≡ f x → goes_on u' f' cells x ≡ goes_on u f cells x
+  stayed_on x e g = ap (λ (z : Bool). ltb x cells && (z && not (f' x))) e ∙ ap (λ (z : Bool). ltb x cells && (u x && not z)) g
 
   -- a block that came
   module _ (i w : ℕ) (some : 0 < w) (k : Fits u f cells w i) (m : Marked i w u f u' f') where
@@ -53,7 +53,7 @@ module _ (u f u' f' : Map) (cells : ℕ) where
         ∙ cond-false (inside i w x) false (f x) (⊎_elim (λ (l : x < i). inside_before i w x l) (λ (l : i + w ≤ x). inside_past i w x l) o)
 
     out-on : (x : ℕ) → (x < i) ⊎ (i + w ≤ x) → goes_on u' f' cells x ≡ goes_on u f cells x
-    out-on x o = stayed-on x (out-used x o) (out_first x o)
+    out-on x o = stayed_on x (out-used x o) (out_first x o)
 
     in-used : (x : ℕ) → i ≤ x → x < i + w → u' x ≡ true
     in-used x l h = m.used x ∙ cond-true (inside i w x) true (u x) (inside_yes i w x l h)
@@ -67,10 +67,10 @@ module _ (u f u' f' : Map) (cells : ℕ) where
     mark-here : bitmap_live u' f' cells (64 * i) ≡ 64 * w
     mark-here =
         let within = k.within in
-        live-is u' f' cells i (i + w) (starts-yes u' f' cells i (omega arith) (in-used i (omega arith) (omega arith)) at_first)
+        live_is u' f' cells i (i + w) (starts_yes u' f' cells i (omega arith) (in-used i (omega arith) (omega arith)) at_first)
         (record {
           from = omega arith;
-          all = λ x l h. on-yes u' f' cells x (omega arith) (in-used x (omega arith) h) (in-first x (omega arith) h);
+          all = λ x l h. on_yes u' f' cells x (omega arith) (in-used x (omega arith) h) (in-first x (omega arith) h);
           stop = out-on (i + w) (inr (omega arith)) ∙ k.end;
         })
         ∙ (let z : 64 * (i + w - i) ≡ 64 * w = omega arith in z)
@@ -79,21 +79,21 @@ module _ (u f u' f' : Map) (cells : ℕ) where
     mark-there p n =
         ⊎_elim
         (λ (q : p < i).
-        same_live p (stayed-starts p (out-used p (inl q)) (out_first p (inl q)))
+        same_live p (stayed_starts p (out-used p (inl q)) (out_first p (inl q)))
         (λ e s r.
-        let low : e ≤ i = ⊎_elim (λ (z : i < e). absurd (both_ways (u i) (k.free i (omega arith) (omega arith)) (on-used u f cells i (r.all i (omega arith) z)))) (λ (z : e ≤ i). z) (cases_lt i e) in
+        let low : e ≤ i = ⊎_elim (λ (z : i < e). absurd (both_ways (u i) (k.free i (omega arith) (omega arith)) (on_used u f cells i (r.all i (omega arith) z)))) (λ (z : e ≤ i). z) (cases_lt i e) in
         record {
           from = r.from;
           all = λ x l h. out-on x (inl (omega arith)) ∙ r.all x l h;
-          stop = ⊎_elim (λ (z : e ≡ i). ap (goes_on u' f' cells) z ∙ on-begun u' f' cells i at_first) (λ (z : e ≡ i → ⊥). out-on e (inl (omega arith)) ∙ r.stop) (cases_eq e i);
+          stop = ⊎_elim (λ (z : e ≡ i). ap (goes_on u' f' cells) z ∙ on_begun u' f' cells i at_first) (λ (z : e ≡ i → ⊥). out-on e (inl (omega arith)) ∙ r.stop) (cases_eq e i);
         }))
         (λ (q : i ≤ p).
         ⊎_elim
         (λ (h : p < i + w).
-        let old : starts u f cells p ≡ false = starts-free u f cells p (k.free p q h) in
-        same_live p (starts-inner u' f' cells p (in-first p (omega arith) h) ∙ sym old) (λ e s r. absurd (both_ways (starts u f cells p) old s)))
+        let old : starts u f cells p ≡ false = starts_free u f cells p (k.free p q h) in
+        same_live p (starts_inner u' f' cells p (in-first p (omega arith) h) ∙ sym old) (λ e s r. absurd (both_ways (starts u f cells p) old s)))
         (λ (h : i + w ≤ p).
-        same_live p (stayed-starts p (out-used p (inr h)) (out_first p (inr h)))
+        same_live p (stayed_starts p (out-used p (inr h)) (out_first p (inr h)))
         (λ e s r.
         let from = r.from in
         record { from = r.from; all = λ x l z. out-on x (inr (omega arith)) ∙ r.all x l z; stop = out-on e (inr (omega arith)) ∙ r.stop }))
@@ -152,7 +152,7 @@ module _ (u f u' f' : Map) (cells : ℕ) where
     gone-first x o = m.first x ∙ cond-false (inside i (e - i) x) false (f x) (gone-out x o)
 
     gone-on : (x : ℕ) → (x < i) ⊎ (e ≤ x) → goes_on u' f' cells x ≡ goes_on u f cells x
-    gone-on x o = stayed-on x (gone-used x o) (gone-first x o)
+    gone-on x o = stayed_on x (gone-used x o) (gone-first x o)
 
     now-free : (x : ℕ) → i ≤ x → x < e → u' x ≡ false
     now-free x l h = m.used x ∙ cond-true (inside i (e - i) x) false (u x) (inside_yes i (e - i) x l (omega arith))
@@ -165,21 +165,21 @@ module _ (u f u' f' : Map) (cells : ℕ) where
         let more = r.from in
         ⊎_elim
         (λ (q : p < i).
-        same_live p (stayed-starts p (gone-used p (inl q)) (gone-first p (inl q)))
+        same_live p (stayed_starts p (gone-used p (inl q)) (gone-first p (inl q)))
         (λ d t g.
-        let low : d ≤ i = ⊎_elim (λ (z : i < d). absurd (both_ways (starts u f cells i) (on-or-starts u f cells i (g.all i (omega arith) z)) s)) (λ (z : d ≤ i). z) (cases_lt i d) in
+        let low : d ≤ i = ⊎_elim (λ (z : i < d). absurd (both_ways (starts u f cells i) (on_or_starts u f cells i (g.all i (omega arith) z)) s)) (λ (z : d ≤ i). z) (cases_lt i d) in
         record {
           from = g.from;
           all = λ x l h. gone-on x (inl (omega arith)) ∙ g.all x l h;
-          stop = ⊎_elim (λ (z : d ≡ i). ap (goes_on u' f' cells) z ∙ on-free u' f' cells i (now-free i (omega arith) (omega arith))) (λ (z : d ≡ i → ⊥). gone-on d (inl (omega arith)) ∙ g.stop) (cases_eq d i);
+          stop = ⊎_elim (λ (z : d ≡ i). ap (goes_on u' f' cells) z ∙ on_free u' f' cells i (now-free i (omega arith) (omega arith))) (λ (z : d ≡ i → ⊥). gone-on d (inl (omega arith)) ∙ g.stop) (cases_eq d i);
         }))
         (λ (q : i ≤ p).
         ⊎_elim
         (λ (h : p < e).
-        let old : starts u f cells p ≡ false = on-or-starts u f cells p (r.all p (omega arith) h) in
-        same_live p (starts-free u' f' cells p (now-free p q h) ∙ sym old) (λ d t g. absurd (both_ways (starts u f cells p) old t)))
+        let old : starts u f cells p ≡ false = on_or_starts u f cells p (r.all p (omega arith) h) in
+        same_live p (starts_free u' f' cells p (now-free p q h) ∙ sym old) (λ d t g. absurd (both_ways (starts u f cells p) old t)))
         (λ (h : e ≤ p).
-        same_live p (stayed-starts p (gone-used p (inr h)) (gone-first p (inr h)))
+        same_live p (stayed_starts p (gone-used p (inr h)) (gone-first p (inr h)))
         (λ d t g.
         let from = g.from in
         record { from = g.from; all = λ x l z. gone-on x (inr (omega arith)) ∙ g.all x l z; stop = gone-on d (inr (omega arith)) ∙ g.stop }))
@@ -187,7 +187,7 @@ module _ (u f u' f' : Map) (cells : ℕ) where
         (cases_lt p i)
 
     pub unmark-live : (x : ℕ) → bitmap_live u' f' cells x ≡ cond (eqb x (64 * i)) 0 (bitmap_live u f cells x)
-    unmark-live = let more = r.from in all_live i 0 (live_none u' f' cells i (starts-free u' f' cells i (now-free i (omega arith) (omega arith)))) unmark-there
+    unmark-live = let more = r.from in all_live i 0 (live_none u' f' cells i (starts_free u' f' cells i (now-free i (omega arith) (omega arith)))) unmark-there
 
     -- the book, without the block
     module _ (l l' : ℕ → ℕ) (long : l (64 * i) ≡ 64 * (e - i)) (next : (x : ℕ) → l' x ≡ cond (eqb x (64 * i)) 0 (l x)) where

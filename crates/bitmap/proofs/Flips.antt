@@ -60,16 +60,16 @@ module _ (ws : List ℕ) (i : ℕ) (b : Bool) (l : i / 64 < length ws) (n : bit_
   abbrev other : ℕ
   other = bit_xor (get_or ws (i / 64) 0) (2 ^ (i % 64))
 
-  flipped-here : bit_in (set ws (i / 64) other) i ≡ b
+  flipped_here : bit_in (set ws (i / 64) other) i ≡ b
   unfolding bit_in
-  flipped-here =
+  flipped_here =
       ap (λ (z : ℕ). eqb (z / 2 ^ (i % 64) % 2) 1) (get_or-set_same ws (i / 64) other 0 l)
       ∙ ap (λ (z : ℕ). eqb z 1) (flip_same (get_or ws (i / 64) 0) (i % 64))
       ∙ flip_to (get_or ws (i / 64) 0 / 2 ^ (i % 64) % 2) b (omega arith) n
 
-  flipped-there : (x : ℕ) → (x ≡ i → ⊥) → bit_in (set ws (i / 64) other) x ≡ bit_in ws x
+  flipped_there : (x : ℕ) → (x ≡ i → ⊥) → bit_in (set ws (i / 64) other) x ≡ bit_in ws x
   unfolding bit_in
-  flipped-there x m =
+  flipped_there x m =
       ⊎_elim
       (λ (q : x / 64 ≡ i / 64).
       ap (λ (z : ℕ). eqb (get_or (set ws (i / 64) other) z 0 / 2 ^ (x % 64) % 2) 1) q
@@ -84,8 +84,8 @@ module _ (ws : List ℕ) (i : ℕ) (b : Bool) (l : i / 64 < length ws) (n : bit_
     long = length-set ws (i / 64) other;
     bits = λ x.
         ⊎_elim
-        (λ (q : x ≡ i). ap (bit_in (set ws (i / 64) other)) q ∙ flipped-here ∙ sym (cond-true (inside i 1 x) b (bit_in ws x) (inside_yes i 1 x (omega arith) (omega arith))))
-        (λ (q : x ≡ i → ⊥). flipped-there x q ∙ sym (cond-false (inside i 1 x) b (bit_in ws x) (⊎_elim (λ (r : x < i). inside_before i 1 x r) (λ (r : i ≤ x). inside_past i 1 x (omega arith)) (cases_lt x i))))
+        (λ (q : x ≡ i). ap (bit_in (set ws (i / 64) other)) q ∙ flipped_here ∙ sym (cond-true (inside i 1 x) b (bit_in ws x) (inside_yes i 1 x (omega arith) (omega arith))))
+        (λ (q : x ≡ i → ⊥). flipped_there x q ∙ sym (cond-false (inside i 1 x) b (bit_in ws x) (⊎_elim (λ (r : x < i). inside_before i 1 x r) (λ (r : i ≤ x). inside_past i 1 x (omega arith)) (cases_lt x i))))
         (cases_eq x i);
   })
 

@@ -7,10 +7,10 @@ use Rattle.heap.specs.declared.fault.Cause.TheVariants.{Full}
 use Rattle.heap.specs.Faults.{raised, and_then}
 use Rattle.heap.specs.Checks.{admitted}
 use Rattle.heap.specs.Meaning.{Block, Lawful, HeapFault, HeapKind, Covered, Apart}
-use Rattle.heap.proofs.Offers.{admits, admits-large, admits-refused, raised_fault}
+use Rattle.heap.proofs.Offers.{admits, admits_large, admits_refused, raised_fault}
 use Rattle.std.proofs.lemmas.Bool.{both_ways, cond-true, cond-false, cases_eq, cases_lt, cases_Bool, and_parts, and_from, le-leb, leb-true, not-true, not_from_false}
 use Rattle.bitmap.specs.Cells.{Map, cells_of, cells_for, starts, goes_on, bitmap_live, Fits, LowestRun, none_in, fits, free_run, seek, lowest, Sound, placed, bitmap_offer, cells_mean, bitmap_means}
-use Rattle.bitmap.proofs.Rows.{lives, lives-used, on-or-starts, on-used, on-first}
+use Rattle.bitmap.proofs.Rows.{lives, lives_used, on_or_starts, on_used, on_first}
 
 pub none_free : (w : ℕ) (c : Map) (i : ℕ) → none_in w c i ≡ true → (x : ℕ) → i ≤ x → x < i + w → c x ≡ false
 unfolding none_in
@@ -54,46 +54,46 @@ seek_true (suc n) t i j e =
     (cases_Bool (t i))
 
 module _ (u f : Map) (cells w : ℕ) where
-  pub fits-is : (i : ℕ) → fits u f cells w i ≡ true → Fits u f cells w i
-  fits-is i e =
+  pub fits_is : (i : ℕ) → fits u f cells w i ≡ true → Fits u f cells w i
+  fits_is i e =
       let a = and_parts (leb (i + w) cells) (none_in w u i && not (goes_on u f cells (i + w))) e in
       let b = and_parts (none_in w u i) (not (goes_on u f cells (i + w))) a.1 in
       record { within = leb-true (i + w) cells a.0; free = none_free w u i b.0; end = not-true (goes_on u f cells (i + w)) b.1 }
 
-  pub fits-yes : (i : ℕ) → Fits u f cells w i → fits u f cells w i ≡ true
-  fits-yes i k =
+  pub fits_yes : (i : ℕ) → Fits u f cells w i → fits u f cells w i ≡ true
+  fits_yes i k =
       and_from (leb (i + w) cells) (none_in w u i && not (goes_on u f cells (i + w))) (le-leb (i + w) cells k.within)
       (and_from (none_in w u i) (not (goes_on u f cells (i + w))) (free_none w u i k.free) (not_from_false (goes_on u f cells (i + w)) k.end))
 
-  fits-no : (i : ℕ) → (Fits u f cells w i → ⊥) → fits u f cells w i ≡ false
-  fits-no i n = ⊎_elim (λ (e : fits u f cells w i ≡ true). absurd (n (fits-is i e))) (λ (e : fits u f cells w i ≡ false). e) (cases_Bool (fits u f cells w i))
+  fits_no : (i : ℕ) → (Fits u f cells w i → ⊥) → fits u f cells w i ≡ false
+  fits_no i n = ⊎_elim (λ (e : fits u f cells w i ≡ true). absurd (n (fits_is i e))) (λ (e : fits u f cells w i ≡ false). e) (cases_Bool (fits u f cells w i))
 
   -- what any search finds
-  pub lowest-is : (r : Option ℕ) → LowestRun u f cells w r → r ≡ lowest u f cells w
-  lowest-is (Some i) k = let l = k.0.within in sym (seek_is (suc cells) (fits u f cells w) 0 i (omega arith) (omega arith) (fits-yes i k.0) (λ x a b. fits-no x (k.1 x b)))
-  lowest-is None k = sym (seek_none (suc cells) (fits u f cells w) 0 (λ x. fits-no x (k x)))
+  pub lowest_is : (r : Option ℕ) → LowestRun u f cells w r → r ≡ lowest u f cells w
+  lowest_is (Some i) k = let l = k.0.within in sym (seek_is (suc cells) (fits u f cells w) 0 i (omega arith) (omega arith) (fits_yes i k.0) (λ x a b. fits_no x (k.1 x b)))
+  lowest_is None k = sym (seek_none (suc cells) (fits u f cells w) 0 (λ x. fits_no x (k x)))
 
 -- in sound maps a run of free cells is enough
 module _ (u f : Map) (cells w : ℕ) (k : Sound u f cells) (some : 0 < w) where
-  sound-end : (i : ℕ) → ((x : ℕ) → i ≤ x → x < i + w → u x ≡ false) → goes_on u f cells (i + w) ≡ false
-  sound-end i free =
+  sound_end : (i : ℕ) → ((x : ℕ) → i ≤ x → x < i + w → u x ≡ false) → goes_on u f cells (i + w) ≡ false
+  sound_end i free =
       ⊎_elim
-      (λ (e : goes_on u f cells (i + w) ≡ true). absurd (both_ways (u (i + w - 1)) (free (i + w - 1) (omega arith) (omega arith)) (k.follows (i + w) (on-used u f cells (i + w) e) (on-first u f cells (i + w) e)).1))
+      (λ (e : goes_on u f cells (i + w) ≡ true). absurd (both_ways (u (i + w - 1)) (free (i + w - 1) (omega arith) (omega arith)) (k.follows (i + w) (on_used u f cells (i + w) e) (on_first u f cells (i + w) e)).1))
       (λ (e : goes_on u f cells (i + w) ≡ false). e)
       (cases_Bool (goes_on u f cells (i + w)))
 
-  sound-fits : (i : ℕ) → fits u f cells w i ≡ free_run u cells w i
-  sound-fits i =
+  sound_fits : (i : ℕ) → fits u f cells w i ≡ free_run u cells w i
+  sound_fits i =
       ⊎_elim
       (λ (e : free_run u cells w i ≡ true).
       let p = and_parts (leb (i + w) cells) (none_in w u i) e in
-      fits-yes u f cells w i (record { within = leb-true (i + w) cells p.0; free = none_free w u i p.1; end = sound-end i (none_free w u i p.1) }) ∙ sym e)
+      fits_yes u f cells w i (record { within = leb-true (i + w) cells p.0; free = none_free w u i p.1; end = sound_end i (none_free w u i p.1) }) ∙ sym e)
       (λ (e : free_run u cells w i ≡ false).
-      fits-no u f cells w i (λ q. both_ways (free_run u cells w i) e (and_from (leb (i + w) cells) (none_in w u i) (le-leb (i + w) cells q.within) (free_none w u i q.free))) ∙ sym e)
+      fits_no u f cells w i (λ q. both_ways (free_run u cells w i) e (and_from (leb (i + w) cells) (none_in w u i) (le-leb (i + w) cells q.within) (free_none w u i q.free))) ∙ sym e)
       (cases_Bool (free_run u cells w i))
 
-  pub sound-lowest : lowest u f cells w ≡ seek (suc cells) (free_run u cells w) 0
-  sound-lowest = ap (λ (t : Map). seek (suc cells) t 0) (fun_ext sound-fits)
+  pub sound_lowest : lowest u f cells w ≡ seek (suc cells) (free_run u cells w) 0
+  sound_lowest = ap (λ (t : Map). seek (suc cells) t 0) (fun_ext sound_fits)
 
 placed_ok : (n w : ℕ) (r : Option ℕ) (b : Block) → placed n w r ≡ Ok b → (i : ℕ) × (r ≡ Some i) × (b.0 ≡ 64 * i) × (b.1 ≡ 64 * w)
 placed_ok n w (Some i) b e = let q : (64 * i, 64 * w) ≡ b = cc in (i, refl, sym (ap (λ (z : Block). z.0) q), sym (ap (λ (z : Block). z.1) q))
@@ -124,13 +124,13 @@ module _ (u f : Map) (cells : ℕ) where
         cell = p.0;
         at = p.2;
         long = p.3;
-        fits = fits-is u f cells (cells_for n) p.0 (seek_true (suc cells) (fits u f cells (cells_for n)) 0 p.0 p.1);
+        fits = fits_is u f cells (cells_for n) p.0 (seek_true (suc cells) (fits u f cells (cells_for n)) 0 p.0 p.1);
         some = a.some;
         most = a.most;
       }
 
-  live-apart : (a b : ℕ) → 0 < bitmap_live u f cells a → a < b → 0 < bitmap_live u f cells b → a + bitmap_live u f cells a ≤ b
-  live-apart a b h l k =
+  live_apart : (a b : ℕ) → 0 < bitmap_live u f cells a → a < b → 0 < bitmap_live u f cells b → a + bitmap_live u f cells a ≤ b
+  live_apart a b h l k =
       let v = lives u f cells a h in
       let w = lives u f cells b k in
       let va = v.at in
@@ -138,12 +138,12 @@ module _ (u f : Map) (cells : ℕ) where
       let vl = v.long in
       let vf = v.runs.from in
       ⊎_elim
-      (λ (q : w.cell < v.end). absurd (both_ways (starts u f cells w.cell) (on-or-starts u f cells w.cell (v.runs.all w.cell (omega arith) q)) w.starts))
+      (λ (q : w.cell < v.end). absurd (both_ways (starts u f cells w.cell) (on_or_starts u f cells w.cell (v.runs.all w.cell (omega arith) q)) w.starts))
       (λ (q : v.end ≤ w.cell). omega arith)
       (cases_lt w.cell v.end)
 
-  fits-apart : (n : ℕ) (b : Block) → Fresh u f cells n b → (a : ℕ) → 0 < bitmap_live u f cells a → Apart b (a, bitmap_live u f cells a)
-  fits-apart n b r a h =
+  fits_apart : (n : ℕ) (b : Block) → Fresh u f cells n b → (a : ℕ) → 0 < bitmap_live u f cells a → Apart b (a, bitmap_live u f cells a)
+  fits_apart n b r a h =
       let v = lives u f cells a h in
       let va = v.at in
       let vl = v.long in
@@ -158,8 +158,8 @@ module _ (u f : Map) (cells : ℕ) where
       ⊎_elim
       (λ (q : i < v.end).
       absurd (⊎_elim
-      (λ (z : v.cell < i). both_ways (u i) (r.fits.free i (omega arith) (omega arith)) (lives-used u f cells a (bitmap_live u f cells a) v i (omega arith) q))
-      (λ (z : i ≤ v.cell). both_ways (u v.cell) (r.fits.free v.cell z p) (lives-used u f cells a (bitmap_live u f cells a) v v.cell (omega arith) (omega arith)))
+      (λ (z : v.cell < i). both_ways (u i) (r.fits.free i (omega arith) (omega arith)) (lives_used u f cells a (bitmap_live u f cells a) v i (omega arith) q))
+      (λ (z : i ≤ v.cell). both_ways (u v.cell) (r.fits.free v.cell z p) (lives_used u f cells a (bitmap_live u f cells a) v v.cell (omega arith) (omega arith)))
       (cases_lt v.cell i)))
       (λ (q : v.end ≤ i). inr (omega arith))
       (cases_lt i v.end))
@@ -179,7 +179,7 @@ cells_lawful cells byte u f small =
           let from = v.runs.from in
           let within = v.within in
           record { address = omega arith; length = omega arith; some = omega arith; within = omega arith };
-      apart = live-apart u f cells;
+      apart = live_apart u f cells;
       offered = λ n b e.
           let r = fresh u f cells n b e in
           let at = r.at in
@@ -188,10 +188,10 @@ cells_lawful cells byte u f small =
           let within = r.fits.within in
           record { address = omega arith; length = omega arith; some = omega arith; within = omega arith };
       enough = λ n b e. let r = fresh u f cells n b e in let long = r.long in omega arith;
-      unused = λ n b e a h. fits-apart u f cells n b (fresh u f cells n b e) a h;
+      unused = λ n b e a h. fits_apart u f cells n b (fresh u f cells n b e) a h;
       zero = refl;
-      large = λ n h. admits-large 32768 BitmapK (bitmap_offer u f cells) n (lit≤ tt) h;
-      refused = λ n g e. admits-refused 32768 BitmapK (bitmap_offer u f cells) n bitmap_kind
+      large = λ n h. admits_large 32768 BitmapK (bitmap_offer u f cells) n (lit≤ tt) h;
+      refused = λ n g e. admits_refused 32768 BitmapK (bitmap_offer u f cells) n bitmap_kind
           (λ z q. subst HeapFault (placed_err n (cells_for n) (lowest u f cells (cells_for n)) z q) (raised_fault Full BitmapK n tt bitmap_kind)) g e;
     }
 

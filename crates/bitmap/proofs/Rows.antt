@@ -36,50 +36,50 @@ runs_same c i e d r s =
     (cases_order e d)
 
 module _ (u f : Map) (cells : ℕ) where
-  pub starts-below : (i : ℕ) → starts u f cells i ≡ true → i < cells
-  starts-below i e = ltb-true i cells (and_parts (ltb i cells) (u i && f i) e).0
+  pub starts_below : (i : ℕ) → starts u f cells i ≡ true → i < cells
+  starts_below i e = ltb-true i cells (and_parts (ltb i cells) (u i && f i) e).0
 
-  pub starts-used : (i : ℕ) → starts u f cells i ≡ true → u i ≡ true
-  starts-used i e = (and_parts (u i) (f i) (and_parts (ltb i cells) (u i && f i) e).1).0
+  pub starts_used : (i : ℕ) → starts u f cells i ≡ true → u i ≡ true
+  starts_used i e = (and_parts (u i) (f i) (and_parts (ltb i cells) (u i && f i) e).1).0
 
   pub starts_first : (i : ℕ) → starts u f cells i ≡ true → f i ≡ true
   starts_first i e = (and_parts (u i) (f i) (and_parts (ltb i cells) (u i && f i) e).1).1
 
-  pub starts-yes : (i : ℕ) → i < cells → u i ≡ true → f i ≡ true → starts u f cells i ≡ true
-  starts-yes i l e g = and_from (ltb i cells) (u i && f i) (lt-ltb i cells l) (and_from (u i) (f i) e g)
+  pub starts_yes : (i : ℕ) → i < cells → u i ≡ true → f i ≡ true → starts u f cells i ≡ true
+  starts_yes i l e g = and_from (ltb i cells) (u i && f i) (lt-ltb i cells l) (and_from (u i) (f i) e g)
 
-  pub starts-free : (i : ℕ) → u i ≡ false → starts u f cells i ≡ false
-  starts-free i e = and_right (ltb i cells) (u i && f i) (and_left (u i) (f i) e)
+  pub starts_free : (i : ℕ) → u i ≡ false → starts u f cells i ≡ false
+  starts_free i e = and_right (ltb i cells) (u i && f i) (and_left (u i) (f i) e)
 
-  pub starts-inner : (i : ℕ) → f i ≡ false → starts u f cells i ≡ false
-  starts-inner i e = and_right (ltb i cells) (u i && f i) (and_right (u i) (f i) e)
+  pub starts_inner : (i : ℕ) → f i ≡ false → starts u f cells i ≡ false
+  starts_inner i e = and_right (ltb i cells) (u i && f i) (and_right (u i) (f i) e)
 
-  pub on-used : (i : ℕ) → goes_on u f cells i ≡ true → u i ≡ true
-  on-used i e = (and_parts (u i) (not (f i)) (and_parts (ltb i cells) (u i && not (f i)) e).1).0
+  pub on_used : (i : ℕ) → goes_on u f cells i ≡ true → u i ≡ true
+  on_used i e = (and_parts (u i) (not (f i)) (and_parts (ltb i cells) (u i && not (f i)) e).1).0
 
-  pub on-first : (i : ℕ) → goes_on u f cells i ≡ true → f i ≡ false
-  on-first i e = not-true (f i) (and_parts (u i) (not (f i)) (and_parts (ltb i cells) (u i && not (f i)) e).1).1
+  pub on_first : (i : ℕ) → goes_on u f cells i ≡ true → f i ≡ false
+  on_first i e = not-true (f i) (and_parts (u i) (not (f i)) (and_parts (ltb i cells) (u i && not (f i)) e).1).1
 
-  pub on-yes : (i : ℕ) → i < cells → u i ≡ true → f i ≡ false → goes_on u f cells i ≡ true
-  on-yes i l e g = and_from (ltb i cells) (u i && not (f i)) (lt-ltb i cells l) (and_from (u i) (not (f i)) e (not_from_false (f i) g))
+  pub on_yes : (i : ℕ) → i < cells → u i ≡ true → f i ≡ false → goes_on u f cells i ≡ true
+  on_yes i l e g = and_from (ltb i cells) (u i && not (f i)) (lt-ltb i cells l) (and_from (u i) (not (f i)) e (not_from_false (f i) g))
 
-  pub on-past : (i : ℕ) → cells ≤ i → goes_on u f cells i ≡ false
-  on-past i l = and_left (ltb i cells) (u i && not (f i)) (le-ltb i cells l)
+  pub on_past : (i : ℕ) → cells ≤ i → goes_on u f cells i ≡ false
+  on_past i l = and_left (ltb i cells) (u i && not (f i)) (le-ltb i cells l)
 
-  pub on-free : (i : ℕ) → u i ≡ false → goes_on u f cells i ≡ false
-  on-free i e = and_right (ltb i cells) (u i && not (f i)) (and_left (u i) (not (f i)) e)
+  pub on_free : (i : ℕ) → u i ≡ false → goes_on u f cells i ≡ false
+  on_free i e = and_right (ltb i cells) (u i && not (f i)) (and_left (u i) (not (f i)) e)
 
-  pub on-begun : (i : ℕ) → f i ≡ true → goes_on u f cells i ≡ false
-  on-begun i e = and_right (ltb i cells) (u i && not (f i)) (and_right (u i) (not (f i)) (not_from_true (f i) e))
+  pub on_begun : (i : ℕ) → f i ≡ true → goes_on u f cells i ≡ false
+  on_begun i e = and_right (ltb i cells) (u i && not (f i)) (and_right (u i) (not (f i)) (not_from_true (f i) e))
 
-  pub on-or-starts : (i : ℕ) → goes_on u f cells i ≡ true → starts u f cells i ≡ false
-  on-or-starts i e = and_right (ltb i cells) (u i && f i) (and_right (u i) (f i) (on-first i e))
+  pub on_or_starts : (i : ℕ) → goes_on u f cells i ≡ true → starts u f cells i ≡ false
+  on_or_starts i e = and_right (ltb i cells) (u i && f i) (and_right (u i) (f i) (on_first i e))
 
   -- a run of cells that go on ends by the last cell
-  pub runs-below : (i e : ℕ) → i ≤ cells → Runs (goes_on u f cells) i e → e ≤ cells
-  runs-below i e l r =
+  pub runs_below : (i e : ℕ) → i ≤ cells → Runs (goes_on u f cells) i e → e ≤ cells
+  runs_below i e l r =
       ⊎_elim
-      (λ (q : cells < e). absurd (both_ways (goes_on u f cells cells) (on-past cells (omega arith)) (r.all cells l q)))
+      (λ (q : cells < e). absurd (both_ways (goes_on u f cells cells) (on_past cells (omega arith)) (r.all cells l q)))
       (λ (q : e ≤ cells). q)
       (cases_lt cells e)
 
@@ -93,10 +93,10 @@ module _ (u f : Map) (cells : ℕ) where
     pub long : l ≡ 64 * (end - cell)
     pub within : end ≤ cells
 
-  pub live-is : (p e : ℕ) → starts u f cells p ≡ true → Runs (goes_on u f cells) (p + 1) e → bitmap_live u f cells (64 * p) ≡ 64 * (e - p)
-  live-is p e s r =
+  pub live_is : (p e : ℕ) → starts u f cells p ≡ true → Runs (goes_on u f cells) (p + 1) e → bitmap_live u f cells (64 * p) ≡ 64 * (e - p)
+  live_is p e s r =
       let k = follow cells (goes_on u f cells) (p + 1) in
-      let g : Runs (goes_on u f cells) (p + 1) (p + 1 + k) = follow_runs cells (goes_on u f cells) (p + 1) (λ x l. on-past x (omega arith)) in
+      let g : Runs (goes_on u f cells) (p + 1) (p + 1 + k) = follow_runs cells (goes_on u f cells) (p + 1) (λ x l. on_past x (omega arith)) in
       let q : e ≡ p + 1 + k = runs_same (goes_on u f cells) (p + 1) e (p + 1 + k) r g in
       let d : 64 * p / 64 ≡ p = omega arith in
       cond-true (eqb (64 * p % 64) 0) (64 * cells_at u f cells (64 * p / 64)) 0 (eq-eqb (64 * p % 64) 0 (omega arith))
@@ -112,8 +112,8 @@ module _ (u f : Map) (cells : ℕ) where
       ∙ ap (λ (z : ℕ). 64 * cells_at u f cells z) d
       ∙ ap (λ (z : ℕ). 64 * z) (cond-false (starts u f cells p) (1 + k) 0 s)
 
-  pub live-odd : (a : ℕ) → (a % 64 ≡ 0 → ⊥) → bitmap_live u f cells a ≡ 0
-  live-odd a n = cond-false (eqb (a % 64) 0) (64 * cells_at u f cells (a / 64)) 0 (ne_eqb (a % 64) 0 n)
+  pub live_odd : (a : ℕ) → (a % 64 ≡ 0 → ⊥) → bitmap_live u f cells a ≡ 0
+  live_odd a n = cond-false (eqb (a % 64) 0) (64 * cells_at u f cells (a / 64)) 0 (ne_eqb (a % 64) 0 n)
 
   pub lives : (a : ℕ) → 0 < bitmap_live u f cells a → Lives a (bitmap_live u f cells a)
   lives a h =
@@ -124,29 +124,29 @@ module _ (u f : Map) (cells : ℕ) where
       ⊎_elim
       (λ (s : starts u f cells p ≡ true).
       let k = follow cells (goes_on u f cells) (p + 1) in
-      let g : Runs (goes_on u f cells) (p + 1) (p + 1 + k) = follow_runs cells (goes_on u f cells) (p + 1) (λ x l. on-past x (omega arith)) in
-      let b = starts-below p s in
-      record { cell = p; end = p + 1 + k; at = at; starts = s; runs = g; long = ap (bitmap_live u f cells) at ∙ live-is p (p + 1 + k) s g; within = runs-below (p + 1) (p + 1 + k) (omega arith) g })
+      let g : Runs (goes_on u f cells) (p + 1) (p + 1 + k) = follow_runs cells (goes_on u f cells) (p + 1) (λ x l. on_past x (omega arith)) in
+      let b = starts_below p s in
+      record { cell = p; end = p + 1 + k; at = at; starts = s; runs = g; long = ap (bitmap_live u f cells) at ∙ live_is p (p + 1 + k) s g; within = runs_below (p + 1) (p + 1 + k) (omega arith) g })
       (λ (s : starts u f cells p ≡ false). absurd (let z = ap (bitmap_live u f cells) at ∙ live_none p s in let w : ⊥ = omega arith in w))
       (cases_Bool (starts u f cells p)))
-      (λ (m : a % 64 ≡ 0 → ⊥). absurd (let z = live-odd a m in let w : ⊥ = omega arith in w))
+      (λ (m : a % 64 ≡ 0 → ⊥). absurd (let z = live_odd a m in let w : ⊥ = omega arith in w))
       (cases_eq (a % 64) 0)
 
   -- every cell of a live block is used
-  pub lives-used : (a l : ℕ) (b : Lives a l) (x : ℕ) → b.cell ≤ x → x < b.end → u x ≡ true
-  lives-used a l b x h m =
-      ⊎_elim (λ (q : x ≡ b.cell). ap u q ∙ starts-used b.cell b.starts) (λ (q : x ≡ b.cell → ⊥). on-used x (b.runs.all x (omega arith) m)) (cases_eq x b.cell)
+  pub lives_used : (a l : ℕ) (b : Lives a l) (x : ℕ) → b.cell ≤ x → x < b.end → u x ≡ true
+  lives_used a l b x h m =
+      ⊎_elim (λ (q : x ≡ b.cell). ap u q ∙ starts_used b.cell b.starts) (λ (q : x ≡ b.cell → ⊥). on_used x (b.runs.all x (omega arith) m)) (cases_eq x b.cell)
 
   -- find
-  pub found-block : (a p e : ℕ) → Back (goes_on u f cells) (a / 64) p → starts u f cells p ≡ true → Runs (goes_on u f cells) (p + 1) e → (bitmap_live u f cells (64 * p) ≡ 64 * (e - p)) × In (64 * p) (64 * (e - p)) a
-  found-block a p e b s r =
+  pub found_block : (a p e : ℕ) → Back (goes_on u f cells) (a / 64) p → starts u f cells p ≡ true → Runs (goes_on u f cells) (p + 1) e → (bitmap_live u f cells (64 * p) ≡ 64 * (e - p)) × In (64 * p) (64 * (e - p)) a
+  found_block a p e b s r =
       let from = b.from in
       let more : a / 64 < e =
       ⊎_elim
       (λ (q : a / 64 < e). q)
       (λ (q : e ≤ a / 64). let i = r.from in absurd (both_ways (goes_on u f cells e) r.stop (b.all e (omega arith) q)))
       (cases_lt (a / 64) e) in
-      (live-is p e s r, record { from = omega arith; below = omega arith })
+      (live_is p e s r, record { from = omega arith; below = omega arith })
 
   pub found_none : (a p : ℕ) → Back (goes_on u f cells) (a / 64) p → starts u f cells p ≡ false → (b : ℕ) → In b (bitmap_live u f cells b) a → ⊥
   found_none a p k s b i =
@@ -162,7 +162,7 @@ module _ (u f : Map) (cells : ℕ) where
       ⊎_elim
       (λ (q : p ≡ c). both_ways (starts u f cells c) (ap (starts u f cells) (sym q) ∙ s) v.starts)
       (λ (q : (p < c) ⊎ (c < p)). ⊎_elim
-      (λ (l : p < c). both_ways (starts u f cells c) (on-or-starts c (k.all c l c-low)) v.starts)
+      (λ (l : p < c). both_ways (starts u f cells c) (on_or_starts c (k.all c l c-low)) v.starts)
       (λ (l : c < p). let kf = k.from in both_ways (goes_on u f cells p) (k.stop (omega arith)) (v.runs.all p (omega arith) (omega arith)))
       q)
       (cases_order p c)

@@ -12,7 +12,7 @@ use Rattle.boundary_tag.proofs.Walks.{chunk_none, chunk_good, chunk_kept, walk_e
 use Rattle.boundary_tag.proofs.Lists.{live_cut}
 use Rattle.boundary_tag.proofs.Places.{rewritten}
 use Rattle.boundary_tag.proofs.Laws.{span_eighth, covered_span}
-use Rattle.boundary_tag.proofs.Carving.{at-reach, at-chunk, at_rest, at-shape}
+use Rattle.boundary_tag.proofs.Carving.{at_reach, at_chunk, at_rest, at_shape}
 use Rattle.std.proofs.lemmas.Bool.{cond-true, cond-false, ne_eqb, le-leb, lt-leb, cases_eq, cases_lt}
 
 -- a new heap
@@ -84,12 +84,12 @@ same_region xs ys e = subst (λ (z : List ℕ). Same (tag_means xs) (tag_means z
 
 -- an allocate
 module _ (xs ys : List ℕ) where
-  pub tag-allocates : (r : Result Block Fault) → Grants xs ys r → Allocates (tag_means xs) (tag_means ys) r
-  tag-allocates (Ok b) g = record { kind = refl; span = ap tag_span g.long; live = g.live; clear = g.clear; byte = g.byte }
-  tag-allocates (Err f) e = same_region xs ys e
+  pub tag_allocates : (r : Result Block Fault) → Grants xs ys r → Allocates (tag_means xs) (tag_means ys) r
+  tag_allocates (Ok b) g = record { kind = refl; span = ap tag_span g.long; live = g.live; clear = g.clear; byte = g.byte }
+  tag_allocates (Err f) e = same_region xs ys e
 
-  pub keeps-allocates : (zs : List ℕ) (h : History) (n : ℕ) (r : Result Block Fault) → Grants xs ys r → TagKeeps zs h xs → TagKeeps zs (after_allocate n r h) ys
-  keeps-allocates zs h n (Ok b) g k =
+  pub keeps_allocates : (zs : List ℕ) (h : History) (n : ℕ) (r : Result Block Fault) → Grants xs ys r → TagKeeps zs h xs → TagKeeps zs (after_allocate n r h) ys
+  keeps_allocates zs h n (Ok b) g k =
       let same : tag_span (length xs) ≡ tag_span (length zs) = ap tag_span k.long in
       let span : tag_span (length ys) ≡ tag_span (length xs) = ap tag_span g.long in
       record {
@@ -106,16 +106,16 @@ module _ (xs ys : List ℕ) where
               settled = g.settled q.settled;
             };
       }
-  keeps-allocates zs h n (Err f) e k = subst (λ (z : List ℕ). TagKeeps zs h z) (sym e) k
+  keeps_allocates zs h n (Err f) e k = subst (λ (z : List ℕ). TagKeeps zs h z) (sym e) k
 
 -- a free
 module _ (xs ys : List ℕ) (a : ℕ) where
-  pub tag-frees : (r : Result (Unit {0}) Fault) → Releases a xs ys r → Frees a (tag_means xs) (tag_means ys) r
-  tag-frees (Ok t) g = record { kind = refl; span = ap tag_span g.long; live = g.live; byte = g.byte }
-  tag-frees (Err f) e = same_region xs ys e
+  pub tag_frees : (r : Result (Unit {0}) Fault) → Releases a xs ys r → Frees a (tag_means xs) (tag_means ys) r
+  tag_frees (Ok t) g = record { kind = refl; span = ap tag_span g.long; live = g.live; byte = g.byte }
+  tag_frees (Err f) e = same_region xs ys e
 
-  pub keeps-frees : (zs : List ℕ) (h : History) (r : Result (Unit {0}) Fault) → Releases a xs ys r → TagKeeps zs h xs → TagKeeps zs (after_free a r h) ys
-  keeps-frees zs h (Ok t) g k =
+  pub keeps_frees : (zs : List ℕ) (h : History) (r : Result (Unit {0}) Fault) → Releases a xs ys r → TagKeeps zs h xs → TagKeeps zs (after_free a r h) ys
+  keeps_frees zs h (Ok t) g k =
       let same : tag_span (length xs) ≡ tag_span (length zs) = ap tag_span k.long in
       let span : tag_span (length ys) ≡ tag_span (length xs) = ap tag_span g.long in
       record {
@@ -130,7 +130,7 @@ module _ (xs ys : List ℕ) (a : ℕ) where
               settled = g.settled q.settled;
             };
       }
-  keeps-frees zs h (Err f) e k = subst (λ (z : List ℕ). TagKeeps zs h z) (sym e) k
+  keeps_frees zs h (Err f) e k = subst (λ (z : List ℕ). TagKeeps zs h z) (sym e) k
 
 -- a fill
 module _ (xs ys : List ℕ) (a c v : ℕ) where
@@ -148,11 +148,11 @@ module _ (xs ys : List ℕ) (a c v : ℕ) where
         let d = w.here in
         let post = w.behind in
         let size = u.size in
-        let big = (at-shape xs pre d post w.whole).some in
+        let big = (at_shape xs pre d post w.whole).some in
         let lo : (x : ℕ) → x < end_in pre 0 + 8 → get_or ys x 0 ≡ get_or xs x 0 = λ x h. p.rest x (λ i. let f = i.from in omega arith) in
         let hi : (x : ℕ) → end_in pre 0 + d.0 - 8 ≤ x → get_or ys x 0 ≡ get_or xs x 0 = λ x h. p.rest x (λ i. let f = i.below in omega arith) in
         ap (λ (n : ℕ). walk ys (tag_span n) 0) p.long
-        ∙ rewritten xs ys span pre (d ∷ []) post (end_in pre 0) (end_in pre 0 + d.0) (at-reach xs pre d post w.whole) (λ x h. lo x (omega arith)) (chunk_kept xs ys span (end_in pre 0) d lo hi (at-chunk xs pre d post w.whole), refl) (at_rest xs pre d post w.whole) (λ x h. hi x (omega arith))
+        ∙ rewritten xs ys span pre (d ∷ []) post (end_in pre 0) (end_in pre 0 + d.0) (at_reach xs pre d post w.whole) (λ x h. lo x (omega arith)) (chunk_kept xs ys span (end_in pre 0) d lo hi (at_chunk xs pre d post w.whole), refl) (at_rest xs pre d post w.whole) (λ x h. hi x (omega arith))
         ∙ sym w.whole
 
     pub painted-paint : Paint a c v xs ys
@@ -169,8 +169,8 @@ module _ (xs ys : List ℕ) (a c v : ℕ) where
       offers = λ n. ap (λ (cs : List Chunk). and_then (admitted 32768 TagK n) (tag_offer cs)) p.list;
     }
 
-    keeps-filled : (zs : List ℕ) (h : History) → TagKeeps zs h xs → TagKeeps zs (filled a c v ∷ h) ys
-    keeps-filled zs h k =
+    keeps_filled : (zs : List ℕ) (h : History) → TagKeeps zs h xs → TagKeeps zs (filled a c v ∷ h) ys
+    keeps_filled zs h k =
         let same : tag_span (length xs) ≡ tag_span (length zs) = ap tag_span k.long in
         let span : tag_span (length ys) ≡ tag_span (length xs) = ap tag_span p.painted.long in
         record {
@@ -186,13 +186,13 @@ module _ (xs ys : List ℕ) (a c v : ℕ) where
               };
         }
 
-  pub tag-fills : (r : Result (Unit {0}) Fault) → Paints a c v xs ys r → Fills a c v (tag_means xs) (tag_means ys) r
-  tag-fills (Ok t) p = tag-filled p
-  tag-fills (Err f) e = same_region xs ys e
+  pub tag_fills : (r : Result (Unit {0}) Fault) → Paints a c v xs ys r → Fills a c v (tag_means xs) (tag_means ys) r
+  tag_fills (Ok t) p = tag-filled p
+  tag_fills (Err f) e = same_region xs ys e
 
-  pub keeps-fills : (zs : List ℕ) (h : History) (r : Result (Unit {0}) Fault) → Paints a c v xs ys r → TagKeeps zs h xs → TagKeeps zs (after_fill a c v r h) ys
-  keeps-fills zs h (Ok t) p k = keeps-filled p zs h k
-  keeps-fills zs h (Err f) e k = subst (λ (z : List ℕ). TagKeeps zs h z) (sym e) k
+  pub keeps_fills : (zs : List ℕ) (h : History) (r : Result (Unit {0}) Fault) → Paints a c v xs ys r → TagKeeps zs h xs → TagKeeps zs (after_fill a c v r h) ys
+  keeps_fills zs h (Ok t) p k = keeps_filled p zs h k
+  keeps_fills zs h (Err f) e k = subst (λ (z : List ℕ). TagKeeps zs h z) (sym e) k
 
 -- what a boundary tag heap offers after a history, as a computation on the history
 pub offers_after : (h : History) (xs : List ℕ) (n : ℕ) → TagKept h xs → (tag_means xs).offer n ≡ and_then (admitted 32768 TagK n) (tag_offer (chunks_after (tag_span (length xs)) h))

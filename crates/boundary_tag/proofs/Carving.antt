@@ -12,17 +12,17 @@ use Rattle.std.proofs.lemmas.Bool.{cases_lt}
 
 -- a granted chunk as it is written: the whole of the free one, or a part
 module _ (p l c : ℕ) (xs ys zs : List ℕ) (w : Written p (c + 16) 1 xs ys) (k : Painted (p + 8) c 0 ys zs) where
-  painted-head : tag_at zs p ≡ (c + 16, 1)
-  painted-head = tag_same ys zs p (λ x q r. k.rest x (λ i. let z = i.from in omega arith)) ∙ w.head
+  painted_head : tag_at zs p ≡ (c + 16, 1)
+  painted_head = tag_same ys zs p (λ x q r. k.rest x (λ i. let z = i.from in omega arith)) ∙ w.head
 
-  painted-tail : tag_at zs (p + (c + 16 - 8)) ≡ (c + 16, 1)
-  painted-tail = tag_same ys zs (p + (c + 16 - 8)) (λ x q r. k.rest x (λ i. let z = i.below in omega arith)) ∙ w.tail
+  painted_tail : tag_at zs (p + (c + 16 - 8)) ≡ (c + 16, 1)
+  painted_tail = tag_same ys zs (p + (c + 16 - 8)) (λ x q r. k.rest x (λ i. let z = i.below in omega arith)) ∙ w.tail
 
-  pub carved-whole : c + 16 ≡ l → Carved p l c xs zs
-  carved-whole e = record {
+  pub carved_whole : c + 16 ≡ l → Carved p l c xs zs
+  carved_whole e = record {
     long = k.long ∙ w.long;
-    head = painted-head;
-    tail = painted-tail;
+    head = painted_head;
+    tail = painted_tail;
     rest_head = λ q. absurd (let z : ⊥ = omega arith in z);
     rest_tail = λ q. absurd (let z : ⊥ = omega arith in z);
     clear = k.set;
@@ -30,11 +30,11 @@ module _ (p l c : ℕ) (xs ys zs : List ℕ) (w : Written p (c + 16) 1 xs ys) (k
     behind = λ x q. k.rest x (λ i. let z = i.below in omega arith) ∙ w.behind x (omega arith);
   }
 
-  pub carved-part : (vs : List ℕ) → c + 40 ≤ l → Written (p + (c + 16)) (l - (c + 16)) 0 zs vs → Carved p l c xs vs
-  carved-part vs h v = record {
+  pub carved_part : (vs : List ℕ) → c + 40 ≤ l → Written (p + (c + 16)) (l - (c + 16)) 0 zs vs → Carved p l c xs vs
+  carved_part vs h v = record {
     long = v.long ∙ k.long ∙ w.long;
-    head = tag_same zs vs p (λ x q r. v.before x (omega arith)) ∙ painted-head;
-    tail = tag_same zs vs (p + (c + 16 - 8)) (λ x q r. v.before x (omega arith)) ∙ painted-tail;
+    head = tag_same zs vs p (λ x q r. v.before x (omega arith)) ∙ painted_head;
+    tail = tag_same zs vs (p + (c + 16 - 8)) (λ x q r. v.before x (omega arith)) ∙ painted_tail;
     rest_head = λ q. v.head;
     rest_tail = λ q. v.tail;
     clear = λ x i. let z = i.below in v.before x (omega arith) ∙ k.set x i;
@@ -44,44 +44,44 @@ module _ (p l c : ℕ) (xs ys zs : List ℕ) (w : Written p (c + 16) 1 xs ys) (k
 
 -- a chunk in its place
 module _ (xs : List ℕ) (pre : List Chunk) (d : Chunk) (post : List Chunk) (whole : chunks xs ≡ pre ++ (d ∷ post)) where
-  pub at-reach : Reach xs (tag_span (length xs)) 0 pre (end_in pre 0)
-  at-reach = (walk_reach xs (tag_span (length xs)) 0 pre (d ∷ post) whole).0
+  pub at_reach : Reach xs (tag_span (length xs)) 0 pre (end_in pre 0)
+  at_reach = (walk_reach xs (tag_span (length xs)) 0 pre (d ∷ post) whole).0
 
   at_both : (chunk_at xs (tag_span (length xs)) (end_in pre 0) ≡ Some d) × (walk xs (tag_span (length xs)) (end_in pre 0 + d.0) ≡ post)
   at_both = walk_first xs (tag_span (length xs)) (end_in pre 0) d post (walk_reach xs (tag_span (length xs)) 0 pre (d ∷ post) whole).1
 
-  pub at-chunk : chunk_at xs (tag_span (length xs)) (end_in pre 0) ≡ Some d
-  at-chunk = at_both.0
+  pub at_chunk : chunk_at xs (tag_span (length xs)) (end_in pre 0) ≡ Some d
+  at_chunk = at_both.0
 
   pub at_rest : walk xs (tag_span (length xs)) (end_in pre 0 + d.0) ≡ post
   at_rest = at_both.1
 
   pub at_tag : tag_at xs (end_in pre 0) ≡ d
-  at_tag = (ends_of xs (tag_span (length xs)) (end_in pre 0) d at-chunk).head
+  at_tag = (ends_of xs (tag_span (length xs)) (end_in pre 0) d at_chunk).head
 
-  pub at-shape : Shape (tag_span (length xs)) (end_in pre 0) d
-  at-shape = shape_of xs (tag_span (length xs)) (end_in pre 0) d at-chunk
+  pub at_shape : Shape (tag_span (length xs)) (end_in pre 0) d
+  at_shape = shape_of xs (tag_span (length xs)) (end_in pre 0) d at_chunk
 
-  pub at-laid : Laid (tag_span (length xs)) 0 (pre ++ (d ∷ post))
-  at-laid = subst (Laid (tag_span (length xs)) 0) whole (laid_walk xs (tag_span (length xs)) 0)
+  pub at_laid : Laid (tag_span (length xs)) 0 (pre ++ (d ∷ post))
+  at_laid = subst (Laid (tag_span (length xs)) 0) whole (laid_walk xs (tag_span (length xs)) 0)
 
   pub at_before : Laid (tag_span (length xs)) 0 pre
-  at_before = laid_before (tag_span (length xs)) pre (d ∷ post) 0 at-laid
+  at_before = laid_before (tag_span (length xs)) pre (d ∷ post) 0 at_laid
 
-  pub at-behind : Laid (tag_span (length xs)) (end_in pre 0) (d ∷ post)
-  at-behind = laid_behind (tag_span (length xs)) pre (d ∷ post) 0 at-laid
+  pub at_behind : Laid (tag_span (length xs)) (end_in pre 0) (d ∷ post)
+  at_behind = laid_behind (tag_span (length xs)) pre (d ∷ post) 0 at_laid
 
   module _ (ys : List ℕ) (c : ℕ) (free : d.1 ≡ 0) (some : 8 ≤ c) (eighth : c % 8 ≡ 0) (most : c + 16 ≤ d.0) (remains : c + 16 < d.0 → c + 40 ≤ d.0) (g : Carved (end_in pre 0) d.0 c xs ys) where
     live-shape : Shape (tag_span (length xs)) (end_in pre 0) (c + 16, 1)
-    live-shape = let f = at-shape.fits in record { fits = omega arith; some = omega arith; eighth = omega arith; state = inr refl }
+    live-shape = let f = at_shape.fits in record { fits = omega arith; some = omega arith; eighth = omega arith; state = inr refl }
 
     live-chunk : chunk_at ys (tag_span (length xs)) (end_in pre 0) ≡ Some (c + 16, 1)
     live-chunk = chunk_good ys (tag_span (length xs)) (end_in pre 0) (c + 16, 1) (record { head = g.head; tail = g.tail }) live-shape
 
     rest-chunk : c + 40 ≤ d.0 → chunk_at ys (tag_span (length xs)) (end_in pre 0 + (c + 16)) ≡ Some (d.0 - (c + 16), 0)
     rest-chunk h =
-        let f = at-shape.fits in
-        let e = at-shape.eighth in
+        let f = at_shape.fits in
+        let e = at_shape.eighth in
         chunk_good ys (tag_span (length xs)) (end_in pre 0 + (c + 16)) (d.0 - (c + 16), 0)
         (record { head = g.rest_head (omega arith); tail = g.rest_tail (omega arith) })
         (record { fits = omega arith; some = omega arith; eighth = omega arith; state = inl refl })
@@ -94,10 +94,10 @@ module _ (xs : List ℕ) (pre : List Chunk) (d : Chunk) (post : List Chunk) (who
         (λ (q : d.0 < c + 40).
         let e : c + 16 ≡ d.0 = ⊎_elim (λ (r : c + 16 < d.0). absurd (let z = remains r in let v : ⊥ = omega arith in v)) (λ (r : d.0 ≤ c + 16). omega arith) (cases_lt (c + 16) d.0) in
         let here : chunk_at ys span k ≡ Some (d.0, 1) = live-chunk ∙ ap (λ (z : ℕ). Some (z, 1)) e in
-        rewritten xs ys span pre ((d.0, 1) ∷ []) post k (k + d.0) at-reach g.before (here, refl) at_rest g.behind
+        rewritten xs ys span pre ((d.0, 1) ∷ []) post k (k + d.0) at_reach g.before (here, refl) at_rest g.behind
         ∙ ap (λ (z : List Chunk). pre ++ z) (sym (split_one d.0 c post q)))
         (λ (q : c + 40 ≤ d.0).
-        rewritten xs ys span pre ((c + 16, 1) ∷ (d.0 - (c + 16), 0) ∷ []) post k (k + d.0) at-reach g.before (live-chunk, (rest-chunk q, (let e : k + (c + 16) + (d.0 - (c + 16)) ≡ k + d.0 = omega arith in e))) at_rest g.behind
+        rewritten xs ys span pre ((c + 16, 1) ∷ (d.0 - (c + 16), 0) ∷ []) post k (k + d.0) at_reach g.before (live-chunk, (rest-chunk q, (let e : k + (c + 16) + (d.0 - (c + 16)) ≡ k + d.0 = omega arith in e))) at_rest g.behind
         ∙ ap (λ (z : List Chunk). pre ++ z) (sym (split_two d.0 c post q)))
         (cases_lt d.0 (c + 40))
 
@@ -118,11 +118,11 @@ module _ (xs : List ℕ) (pre : List Chunk) (d : Chunk) (post : List Chunk) (who
               ⊎_elim
               (λ (q : a + live_in (pre ++ (d ∷ post)) 0 a ≤ k). g.before x (omega arith))
               (λ (q : k + d.0 ≤ a). g.behind x (omega arith))
-              (live_around span pre d post 0 a at-laid free (omega arith));
-          rest = λ x l. let z = at-shape.fits in g.behind x (omega arith);
+              (live_around span pre d post 0 a at_laid free (omega arith));
+          rest = λ x l. let z = at_shape.fits in g.behind x (omega arith);
           live = λ x.
               ap (λ (cs : List Chunk). live_in cs 0 x) carved-list
-              ∙ live_after span pre (d ∷ post) (split d.0 c post) 0 (k + 8) c x at_before (omega arith) (λ y. live_split span d post k c y at-behind free most remains)
+              ∙ live_after span pre (d ∷ post) (split d.0 c post) 0 (k + 8) c x at_before (omega arith) (λ y. live_split span d post k c y at_behind free most remains)
               ∙ ap (λ (z : ℕ). cond (eqb x z) c (live_in (pre ++ (d ∷ post)) 0 x)) (sym e)
               ∙ ap (λ (z : ℕ). cond (eqb x b.0) z (live_in (pre ++ (d ∷ post)) 0 x)) (sym f)
               ∙ ap (λ (cs : List Chunk). cond (eqb x b.0) b.1 (live_in cs 0 x)) (sym whole);
@@ -143,14 +143,14 @@ module _ (xs : List ℕ) (pre : List Chunk) (d : Chunk) (post : List Chunk) (who
 
 -- an accepted allocate
 module _ (xs : List ℕ) (n : ℕ) (b : Block) (f : Offered xs n b) where
-  pub fresh-tag : (tag_at xs (b.0 - 8)).0 ≡ f.chunk.1
-  fresh-tag =
+  pub fresh_tag : (tag_at xs (b.0 - 8)).0 ≡ f.chunk.1
+  fresh_tag =
       let u = f.fit.cut in
       let e : b.0 - 8 ≡ end_in u.before 0 = let a = f.at in let k = u.at in omega arith in
       ap (λ (z : ℕ). (tag_at xs z).0) e ∙ ap (λ (t : Chunk). t.0) (at_tag xs u.before u.here u.behind u.whole) ∙ f.fit.size
 
-  pub fresh-grant : (ys : List ℕ) (l : ℕ) → l ≡ f.chunk.1 → Carved (b.0 - 8) l b.1 xs ys → Grant b xs ys
-  fresh-grant ys l e g =
+  pub fresh_grant : (ys : List ℕ) (l : ℕ) → l ≡ f.chunk.1 → Carved (b.0 - 8) l b.1 xs ys → Grant b xs ys
+  fresh_grant ys l e g =
       let u = f.fit.cut in
       let s = f.fit.size in
       let m = f.most in

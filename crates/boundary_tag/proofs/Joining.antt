@@ -2,9 +2,9 @@
 use Rattle.std.proofs.Common.{◌≡◌, ℕ, ◌+◌, ◌-◌, ◌<◌, ◌≤◌, cond, eqb, leb, List, [], ◌∷◌, ◌++◌, length, Some, sym, refl, ap, ◌∙◌, subst, inl, ⊎_elim, arith}
 use Rattle.boundary_tag.specs.Chunks.{Chunk, Shape, tag_at, chunk_at, tag_span, walk, chunks, live_in, end_in, free_length, past_free, chunks_freed, Settled, low_length, Written, Release}
 use Rattle.boundary_tag.proofs.Walks.{Laid, laid_walk, live_here, live_other, live_low, chunk_good, ends_of}
-use Rattle.boundary_tag.proofs.Lists.{Quiet, Ending, live_cut, last_cases, more_more, end_more, laid_before, live_after, live_around, free_here, live_first, end-past, live-past, laid-past, settled_quiet, settled_join, settled_before, freed_quiet, freed_before}
+use Rattle.boundary_tag.proofs.Lists.{Quiet, Ending, live_cut, last_cases, more_more, end_more, laid_before, live_after, live_around, free_here, live_first, end_past, live_past, laid_past, settled_quiet, settled_join, settled_before, freed_quiet, freed_before}
 use Rattle.boundary_tag.proofs.Places.{Reach, walk_first, rewritten}
-use Rattle.boundary_tag.proofs.Carving.{at-reach, at-chunk, at_rest, at_tag, at-shape, at-laid, at_before, at-behind}
+use Rattle.boundary_tag.proofs.Carving.{at_reach, at_chunk, at_rest, at_tag, at_shape, at_laid, at_before, at_behind}
 use Rattle.std.proofs.lemmas.Bool.{cond-true, cond-false, eq-eqb, ne_eqb, le-leb, cases_eq}
 
 -- the last tag before a place
@@ -41,40 +41,40 @@ module _ (xs ys : List ℕ) (a : ℕ) (pre old : List Chunk) (m : ℕ) (post : L
     (shape : Shape (tag_span (length xs)) (end_in pre 0) (m, 0))
     (rest : walk xs (tag_span (length xs)) (end_in pre 0 + m) ≡ post)
     (w : Written (end_in pre 0) m 0 xs ys) where
-  joined-list : chunks ys ≡ pre ++ ((m, 0) ∷ post)
-  joined-list =
+  joined_list : chunks ys ≡ pre ++ ((m, 0) ∷ post)
+  joined_list =
       let span = tag_span (length xs) in
       ap (λ (n : ℕ). walk ys (tag_span n) 0) w.long
       ∙ rewritten xs ys span pre ((m, 0) ∷ []) post (end_in pre 0) (end_in pre 0 + m) reach w.before (chunk_good ys span (end_in pre 0) (m, 0) (record { head = w.head; tail = w.tail }) shape, refl) rest w.behind
 
-  joined-laid : Laid (tag_span (length xs)) 0 (pre ++ ((m, 0) ∷ post))
-  joined-laid = subst (Laid (tag_span (length xs)) 0) joined-list (subst (λ (n : ℕ). Laid (tag_span n) 0 (chunks ys)) w.long (laid_walk ys (tag_span (length ys)) 0))
+  joined_laid : Laid (tag_span (length xs)) 0 (pre ++ ((m, 0) ∷ post))
+  joined_laid = subst (Laid (tag_span (length xs)) 0) joined_list (subst (λ (n : ℕ). Laid (tag_span n) 0 (chunks ys)) w.long (laid_walk ys (tag_span (length ys)) 0))
 
-  release-by : end_in pre 0 + 8 ≤ a → ((y : ℕ) → live_in ((m, 0) ∷ post) (end_in pre 0) y ≡ cond (eqb y a) 0 (live_in old (end_in pre 0) y)) → end_in post (end_in pre 0 + m) ≡ end_in old (end_in pre 0)
+  release_by : end_in pre 0 + 8 ≤ a → ((y : ℕ) → live_in ((m, 0) ∷ post) (end_in pre 0) y ≡ cond (eqb y a) 0 (live_in old (end_in pre 0) y)) → end_in post (end_in pre 0 + m) ≡ end_in old (end_in pre 0)
       → chunks_freed (pre ++ old) 0 a ≡ pre ++ ((m, 0) ∷ post) → (Settled (pre ++ old) → Settled (pre ++ ((m, 0) ∷ post))) → Release a xs ys
-  release-by up alive ends listed settles = record {
+  release_by up alive ends listed settles = record {
     long = w.long;
     byte = λ b x i.
         let lo = i.from in
         let hi = i.below in
-        let e : live_in (chunks ys) 0 b ≡ live_in (pre ++ ((m, 0) ∷ post)) 0 b = ap (λ (cs : List Chunk). live_in cs 0 b) joined-list in
+        let e : live_in (chunks ys) 0 b ≡ live_in (pre ++ ((m, 0) ∷ post)) 0 b = ap (λ (cs : List Chunk). live_in cs 0 b) joined_list in
         ⊎_elim
         (λ (q : b + live_in (pre ++ ((m, 0) ∷ post)) 0 b ≤ end_in pre 0). w.before x (omega arith))
         (λ (q : end_in pre 0 + m ≤ b). w.behind x (omega arith))
-        (live_around (tag_span (length xs)) pre (m, 0) post 0 b joined-laid refl (omega arith));
+        (live_around (tag_span (length xs)) pre (m, 0) post 0 b joined_laid refl (omega arith));
     rest = λ x l. let f = shape.fits in w.behind x (omega arith);
     live = λ x.
-        ap (λ (cs : List Chunk). live_in cs 0 x) joined-list
+        ap (λ (cs : List Chunk). live_in cs 0 x) joined_list
         ∙ live_after (tag_span (length xs)) pre old ((m, 0) ∷ post) 0 a 0 x laid up alive
         ∙ ap (λ (cs : List Chunk). cond (eqb x a) 0 (live_in cs 0 x)) (sym whole);
-    list = joined-list ∙ sym listed ∙ ap (λ (cs : List Chunk). chunks_freed cs 0 a) (sym whole);
+    list = joined_list ∙ sym listed ∙ ap (λ (cs : List Chunk). chunks_freed cs 0 a) (sym whole);
     end =
-        ap (λ (cs : List Chunk). end_in cs 0) joined-list
+        ap (λ (cs : List Chunk). end_in cs 0) joined_list
         ∙ end_more pre ((m, 0) ∷ post) 0
         ∙ ends
         ∙ sym (end_more pre old 0)
         ∙ ap (λ (cs : List Chunk). end_in cs 0) (sym whole);
-    settled = λ s. subst Settled (sym joined-list) (settles (subst Settled whole s));
+    settled = λ s. subst Settled (sym joined_list) (settles (subst Settled whole s));
   }
 
 -- what a free of the chunk at k leads to, with h bytes from k on
@@ -87,8 +87,8 @@ moved s t m n xs ys e f w = subst (λ (z : ℕ). Written z n 0 xs ys) e (subst (
 
 -- no free chunk stands before it
 module _ (xs : List ℕ) (pre : List Chunk) (c : Chunk) (post : List Chunk) (whole : chunks xs ≡ pre ++ (c ∷ post)) (u : Quiet pre) where
-  quiet-alive : (y : ℕ) → live_in ((c.0 + free_length post, 0) ∷ past_free post) (end_in pre 0) y ≡ cond (eqb y (end_in pre 0 + 8)) 0 (live_in (c ∷ post) (end_in pre 0) y)
-  quiet-alive y =
+  quiet_alive : (y : ℕ) → live_in ((c.0 + free_length post, 0) ∷ past_free post) (end_in pre 0) y ≡ cond (eqb y (end_in pre 0 + 8)) 0 (live_in (c ∷ post) (end_in pre 0) y)
+  quiet_alive y =
       let k = end_in pre 0 in
       let m = c.0 + free_length post in
       ⊎_elim
@@ -96,49 +96,49 @@ module _ (xs : List ℕ) (pre : List Chunk) (c : Chunk) (post : List Chunk) (who
       (λ (q : y ≡ k + 8 → ⊥).
       live_other (m, 0) (past_free post) k y q
       ∙ ap (λ (z : ℕ). live_in (past_free post) z y) (let z : k + m ≡ k + c.0 + free_length post = omega arith in z)
-      ∙ live-past (k + c.0) (tag_span (length xs)) post y (at-behind xs pre c post whole).1
+      ∙ live_past (k + c.0) (tag_span (length xs)) post y (at_behind xs pre c post whole).1
       ∙ sym (live_other c post k y q)
       ∙ sym (cond-false (eqb y (k + 8)) 0 (live_in (c ∷ post) k y) (ne_eqb y (k + 8) q)))
       (cases_eq y (k + 8))
 
-  quiet-low : low_length xs (end_in pre 0) ≡ 0
-  quiet-low = low_quiet xs (tag_span (length xs)) pre (end_in pre 0) (at_before xs pre c post whole) (at-reach xs pre c post whole) u
+  quiet_low : low_length xs (end_in pre 0) ≡ 0
+  quiet_low = low_quiet xs (tag_span (length xs)) pre (end_in pre 0) (at_before xs pre c post whole) (at_reach xs pre c post whole) u
 
-  quiet-joint : Joint xs (end_in pre 0) (c.0 + free_length post)
-  quiet-joint =
+  quiet_joint : Joint xs (end_in pre 0) (c.0 + free_length post)
+  quiet_joint =
       let span = tag_span (length xs) in
       let k = end_in pre 0 in
       let m = c.0 + free_length post in
-      let low = quiet-low in
-      let s = at-shape xs pre c post whole in
+      let low = quiet_low in
+      let s = at_shape xs pre c post whole in
       let fits = s.fits in
       let some = s.some in
       let eighth = s.eighth in
-      let l = laid-past (k + c.0) span post fits (at-behind xs pre c post whole).1 in
+      let l = laid_past (k + c.0) span post fits (at_behind xs pre c post whole).1 in
       let l0 = l.0 in
       let l1 = l.1 in
       let there : k + m ≡ k + c.0 + free_length post = omega arith in
       record {
         under = omega arith;
         made = λ ys w.
-            release-by xs ys (k + 8) pre (c ∷ post) m (past_free post) whole (at-reach xs pre c post whole) (at_before xs pre c post whole)
+            release_by xs ys (k + 8) pre (c ∷ post) m (past_free post) whole (at_reach xs pre c post whole) (at_before xs pre c post whole)
             (record { fits = omega arith; some = omega arith; eighth = omega arith; state = inl refl })
             (ap (walk xs span) there ∙ past_walk xs span (k + c.0) post (at_rest xs pre c post whole))
             (moved (k - low_length xs k) k (low_length xs k + m) m xs ys (omega arith) (omega arith) w)
-            (omega arith) quiet-alive
-            (ap (end_in (past_free post)) there ∙ end-past (k + c.0) post)
+            (omega arith) quiet_alive
+            (ap (end_in (past_free post)) there ∙ end_past (k + c.0) post)
             (freed_quiet span pre c post 0 u (at_before xs pre c post whole))
             (λ z. settled_quiet pre (c ∷ post) ((m, 0) ∷ past_free post) u z (settled_join m c post));
       }
 
 -- a free chunk stands before it
 module _ (xs : List ℕ) (pre : List Chunk) (b c : Chunk) (post : List Chunk) (whole : chunks xs ≡ pre ++ (b ∷ c ∷ post)) (free : b.1 ≡ 0) where
-  before-alive : (y : ℕ) → live_in ((b.0 + (c.0 + free_length post), 0) ∷ past_free post) (end_in pre 0) y ≡ cond (eqb y (end_in pre 0 + b.0 + 8)) 0 (live_in (b ∷ c ∷ post) (end_in pre 0) y)
-  before-alive y =
+  before_alive : (y : ℕ) → live_in ((b.0 + (c.0 + free_length post), 0) ∷ past_free post) (end_in pre 0) y ≡ cond (eqb y (end_in pre 0 + b.0 + 8)) 0 (live_in (b ∷ c ∷ post) (end_in pre 0) y)
+  before_alive y =
       let s = end_in pre 0 in
       let a = s + b.0 + 8 in
       let m = b.0 + (c.0 + free_length post) in
-      let laid = at-behind xs pre b (c ∷ post) whole in
+      let laid = at_behind xs pre b (c ∷ post) whole in
       let some = laid.0.some in
       let some2 = laid.1.0.some in
       let old = live_in (b ∷ c ∷ post) s y in
@@ -149,43 +149,43 @@ module _ (xs : List ℕ) (pre : List Chunk) (b c : Chunk) (post : List Chunk) (w
       (λ (q : y ≡ s + 8 → ⊥).
       live_other (m, 0) (past_free post) s y q
       ∙ ap (λ (z : ℕ). live_in (past_free post) z y) (let z : s + m ≡ s + b.0 + c.0 + free_length post = omega arith in z)
-      ∙ live-past (s + b.0 + c.0) (tag_span (length xs)) post y laid.1.1
+      ∙ live_past (s + b.0 + c.0) (tag_span (length xs)) post y laid.1.1
       ∙ ⊎_elim
       (λ (r : y ≡ a). live_low (tag_span (length xs)) post (s + b.0 + c.0) y laid.1.1 (omega arith) ∙ sym (cond-true (eqb y a) 0 old (eq-eqb y a r)))
       (λ (r : y ≡ a → ⊥). sym (cond-false (eqb y a) 0 old (ne_eqb y a r) ∙ live_other b (c ∷ post) s y q ∙ live_other c post (s + b.0) y r))
       (cases_eq y a))
       (cases_eq y (s + 8))
 
-  before-joint : (k : ℕ) → k ≡ end_in pre 0 + b.0 → Joint xs k (c.0 + free_length post)
-  before-joint k at =
+  before_joint : (k : ℕ) → k ≡ end_in pre 0 + b.0 → Joint xs k (c.0 + free_length post)
+  before_joint k at =
       let span = tag_span (length xs) in
       let s = end_in pre 0 in
       let h = c.0 + free_length post in
       let m = b.0 + h in
-      let laid = at-behind xs pre b (c ∷ post) whole in
+      let laid = at_behind xs pre b (c ∷ post) whole in
       let some = laid.0.some in
       let eighth = laid.0.eighth in
       let fits2 = laid.1.0.fits in
       let some2 = laid.1.0.some in
       let eighth2 = laid.1.0.eighth in
-      let low : low_length xs k ≡ b.0 = low_after xs span s b k some (at-chunk xs pre b (c ∷ post) whole) (sym at) ∙ cond-true (eqb b.1 0) b.0 0 (eq-eqb b.1 0 free) in
-      let l = laid-past (s + b.0 + c.0) span post fits2 laid.1.1 in
+      let low : low_length xs k ≡ b.0 = low_after xs span s b k some (at_chunk xs pre b (c ∷ post) whole) (sym at) ∙ cond-true (eqb b.1 0) b.0 0 (eq-eqb b.1 0 free) in
+      let l = laid_past (s + b.0 + c.0) span post fits2 laid.1.1 in
       let l0 = l.0 in
       let l1 = l.1 in
       let there : s + m ≡ s + b.0 + c.0 + free_length post = omega arith in
       let shape : Shape span s (m, 0) = record { fits = omega arith; some = omega arith; eighth = omega arith; state = inl refl } in
       let rest : walk xs span (s + m) ≡ past_free post = ap (walk xs span) there ∙ past_walk xs span (s + b.0 + c.0) post (walk_first xs span (s + b.0) c post (at_rest xs pre b (c ∷ post) whole)).1 in
-      let both : Laid span 0 (pre ++ (b ∷ [])) = laid_before span (pre ++ (b ∷ [])) (c ∷ post) 0 (subst (Laid span 0) (sym (more_more pre b (c ∷ post))) (at-laid xs pre b (c ∷ post) whole)) in
+      let both : Laid span 0 (pre ++ (b ∷ [])) = laid_before span (pre ++ (b ∷ [])) (c ∷ post) 0 (subst (Laid span 0) (sym (more_more pre b (c ∷ post))) (at_laid xs pre b (c ∷ post) whole)) in
       let back : s + b.0 + 8 ≡ k + 8 = omega arith in
       record {
         under = omega arith;
         made = λ ys w.
             subst (λ (z : ℕ). Release z xs ys) back
-            (release-by xs ys (s + b.0 + 8) pre (b ∷ c ∷ post) m (past_free post) whole (at-reach xs pre b (c ∷ post) whole) (at_before xs pre b (c ∷ post) whole)
+            (release_by xs ys (s + b.0 + 8) pre (b ∷ c ∷ post) m (past_free post) whole (at_reach xs pre b (c ∷ post) whole) (at_before xs pre b (c ∷ post) whole)
             shape rest
             (moved (k - low_length xs k) s (low_length xs k + h) m xs ys (omega arith) (omega arith) w)
-            (omega arith) before-alive
-            (ap (end_in (past_free post)) there ∙ end-past (s + b.0 + c.0) post)
+            (omega arith) before_alive
+            (ap (end_in (past_free post)) there ∙ end_past (s + b.0 + c.0) post)
             (freed_before span pre b c post 0 free both)
             (λ z. settled_before m pre b c post free z));
       }
@@ -193,9 +193,9 @@ module _ (xs : List ℕ) (pre : List Chunk) (b c : Chunk) (post : List Chunk) (w
 joint : (xs : List ℕ) (pre : List Chunk) (c : Chunk) (post : List Chunk) → chunks xs ≡ pre ++ (c ∷ post) → Joint xs (end_in pre 0) (c.0 + free_length post)
 joint xs pre c post whole =
     ⊎_elim
-    (λ (u : Quiet pre). quiet-joint xs pre c post whole u)
+    (λ (u : Quiet pre). quiet_joint xs pre c post whole u)
     (λ (u : Ending pre).
-    before-joint xs u.before u.last c post (whole ∙ ap (λ (z : List Chunk). z ++ (c ∷ post)) u.whole ∙ more_more u.before u.last (c ∷ post)) u.free (end_in pre 0)
+    before_joint xs u.before u.last c post (whole ∙ ap (λ (z : List Chunk). z ++ (c ∷ post)) u.whole ∙ more_more u.before u.last (c ∷ post)) u.free (end_in pre 0)
     (ap (λ (z : List Chunk). end_in z 0) u.whole ∙ end_more u.before (u.last ∷ []) 0))
     (last_cases pre)
 
@@ -222,10 +222,10 @@ freeing xs a h =
     let size : (tag_at xs (a - 8)).0 ≡ c.0 = ap (λ (z : ℕ). (tag_at xs z).0) at ∙ ap (λ (t : Chunk). t.0) (at_tag xs pre c post v.whole) in
     let place : a - 8 + (tag_at xs (a - 8)).0 ≡ k + c.0 = omega arith in
     let behind : free_length (walk xs span (a - 8 + (tag_at xs (a - 8)).0)) ≡ free_length post = ap (λ (z : ℕ). free_length (walk xs span z)) place ∙ ap free_length (at_rest xs pre c post v.whole) in
-    let s = at-shape xs pre c post v.whole in
+    let s = at_shape xs pre c post v.whole in
     let some = s.some in
     let fits = s.fits in
-    let l = (laid-past (k + c.0) span post fits (at-behind xs pre c post v.whole).1).0 in
+    let l = (laid_past (k + c.0) span post fits (at_behind xs pre c post v.whole).1).0 in
     let j = joint xs pre c post v.whole in
     let same : low_length xs (a - 8) ≡ low_length xs k = ap (low_length xs) at in
     let under = j.under in

@@ -6,7 +6,7 @@ use Rattle.heap.specs.declared.fault.Cause.TheVariants.{Full}
 use Rattle.heap.specs.Faults.{raised}
 use Rattle.heap.specs.Meaning.{Block, Lawful, HeapFault, HeapKind, Covered}
 use Rattle.heap.specs.Roundings.{up8}
-use Rattle.heap.proofs.Offers.{admits, admits-large, admits-refused, raised_fault}
+use Rattle.heap.proofs.Offers.{admits, admits_large, admits_refused, raised_fault}
 use Rattle.region.specs.Bytes.{span_of}
 use Rattle.boundary_tag.specs.Chunks.{Chunk, Shape, tag_span, walk, chunks, live_in, end_in, lowest_fit, part_of, offer_from, tag_offer, tag_means}
 use Rattle.boundary_tag.proofs.Walks.{Found, Laid, laid_walk, laid_found, laid_apart}
@@ -158,8 +158,8 @@ tag_lawful xs =
           (λ (q : b.0 + b.1 + 8 ≤ a). inl (omega arith))
           (fresh_around xs n b (fresh xs n b e) a h);
       zero = refl;
-      large = λ n h. admits-large 32768 TagK f n (lit≤ tt) h;
-      refused = λ n g e. admits-refused 32768 TagK f n tag_kind (λ z q. subst HeapFault (from_err (lowest_fit (chunks xs) 0 (up8 n + 16)) n z q) (raised_fault Full TagK n tt tag_kind)) g e;
+      large = λ n h. admits_large 32768 TagK f n (lit≤ tt) h;
+      refused = λ n g e. admits_refused 32768 TagK f n tag_kind (λ z q. subst HeapFault (from_err (lowest_fit (chunks xs) 0 (up8 n + 16)) n z q) (raised_fault Full TagK n tt tag_kind)) g e;
     }
 
 pub covered_span : (xs : List ℕ) (a c : ℕ) → 0 < c → Covered (live_in (chunks xs) 0) a c → a + c ≤ tag_span (length xs)

@@ -6,26 +6,26 @@ use Rattle.std.proofs.lemmas.Bool.{cond-true, cond-false, eq-eqb, ne_eqb, le-leb
 
 -- the search for a free chunk, one step
 module _ (c : Chunk) (cs : List Chunk) (p need : ℕ) where
-  pub fit-here : c.1 ≡ 0 → need ≤ c.0 → lowest_fit (c ∷ cs) p need ≡ Some (p, c.0)
-  fit-here s l =
+  pub fit_here : c.1 ≡ 0 → need ≤ c.0 → lowest_fit (c ∷ cs) p need ≡ Some (p, c.0)
+  fit_here s l =
       cond-true (eqb c.1 0) (cond (leb need c.0) (Some (p, c.0)) (lowest_fit cs (p + c.0) need)) (lowest_fit cs (p + c.0) need) (eq-eqb c.1 0 s)
       ∙ cond-true (leb need c.0) (Some (p, c.0)) (lowest_fit cs (p + c.0) need) (le-leb need c.0 l)
 
-  pub fit-short : c.0 < need → lowest_fit (c ∷ cs) p need ≡ lowest_fit cs (p + c.0) need
-  fit-short l = short c.0 c.1 (lowest_fit cs (p + c.0) need) l
+  pub fit_short : c.0 < need → lowest_fit (c ∷ cs) p need ≡ lowest_fit cs (p + c.0) need
+  fit_short l = short c.0 c.1 (lowest_fit cs (p + c.0) need) l
     where
       short : (d s : ℕ) (r : Option Chunk) → d < need → cond (eqb s 0) (cond (leb need d) (Some (p, d)) r) r ≡ r
       short d s r h = grind arith
 
-  pub fit-live : (c.1 ≡ 0 → ⊥) → lowest_fit (c ∷ cs) p need ≡ lowest_fit cs (p + c.0) need
-  fit-live s = cond-false (eqb c.1 0) (cond (leb need c.0) (Some (p, c.0)) (lowest_fit cs (p + c.0) need)) (lowest_fit cs (p + c.0) need) (ne_eqb c.1 0 s)
+  pub fit_live : (c.1 ≡ 0 → ⊥) → lowest_fit (c ∷ cs) p need ≡ lowest_fit cs (p + c.0) need
+  fit_live s = cond-false (eqb c.1 0) (cond (leb need c.0) (Some (p, c.0)) (lowest_fit cs (p + c.0) need)) (lowest_fit cs (p + c.0) need) (ne_eqb c.1 0 s)
 
 -- a free chunk that fits, or one further on
 fit_cases : (c : Chunk) (cs : List Chunk) (p need : ℕ) → ((c.1 ≡ 0) × (need ≤ c.0)) ⊎ (lowest_fit (c ∷ cs) p need ≡ lowest_fit cs (p + c.0) need)
 fit_cases c cs p need =
     ⊎_elim
-    (λ (s : c.1 ≡ 0). ⊎_elim (λ (l : c.0 < need). inr (fit-short c cs p need l)) (λ (l : need ≤ c.0). inl (s, l)) (cases_lt c.0 need))
-    (λ (s : c.1 ≡ 0 → ⊥). inr (fit-live c cs p need s))
+    (λ (s : c.1 ≡ 0). ⊎_elim (λ (l : c.0 < need). inr (fit_short c cs p need l)) (λ (l : need ≤ c.0). inl (s, l)) (cases_lt c.0 need))
+    (λ (s : c.1 ≡ 0 → ⊥). inr (fit_live c cs p need s))
     (cases_eq c.1 0)
 
 -- a list cut before the chunk at k
@@ -51,7 +51,7 @@ fit_cut [] p need k e = absurd (let z : ◌≡◌ {A = ℕ} 0 1 = cc in let w : 
 fit_cut (c ∷ cs) p need k e =
     ⊎_elim
     (λ (q : (c.1 ≡ 0) × (need ≤ c.0)).
-    let i : ◌≡◌ {A = Option (ℕ × ℕ)} (Some (p, c.0)) (Some k) = sym (fit-here c cs p need q.0 q.1) ∙ e in
+    let i : ◌≡◌ {A = Option (ℕ × ℕ)} (Some (p, c.0)) (Some k) = sym (fit_here c cs p need q.0 q.1) ∙ e in
     let i2 : ◌≡◌ {A = ℕ × ℕ} (p, c.0) k = cc in
     let i0 : p ≡ k.0 = ap (λ (z : ℕ × ℕ). z.0) i2 in
     let i1 : c.0 ≡ k.1 = ap (λ (z : ℕ × ℕ). z.1) i2 in
@@ -270,18 +270,18 @@ live_first d ds s = (cond-false (eqb d.1 0) d.0 0 (ne_eqb d.1 0 s), cond-false (
 -- the chunks behind a free first one, with the first at q
 module _ (q : ℕ) where
   -- they stand behind it, and end where all do
-  pub end-past : (cs : List Chunk) → end_in (past_free cs) (q + free_length cs) ≡ end_in cs q
-  end-past [] = let e : q + 0 ≡ q = omega arith in e
-  end-past (d ∷ ds) =
+  pub end_past : (cs : List Chunk) → end_in (past_free cs) (q + free_length cs) ≡ end_in cs q
+  end_past [] = let e : q + 0 ≡ q = omega arith in e
+  end_past (d ∷ ds) =
       ⊎_elim
       (λ (s : d.1 ≡ 0). let f = free_here d ds s in ap (λ (z : List Chunk). end_in z (q + free_length (d ∷ ds))) f.1 ∙ ap (λ (z : ℕ). end_in ds (q + z)) f.0)
       (λ (s : d.1 ≡ 0 → ⊥). let f = live_first d ds s in ap (λ (z : List Chunk). end_in z (q + free_length (d ∷ ds))) f.1 ∙ ap (λ (z : ℕ). end_in (d ∷ ds) z) (let g = f.0 in let e : q + free_length (d ∷ ds) ≡ q = omega arith in e))
       (cases_eq d.1 0)
 
   -- with the same blocks
-  pub live-past : (span : ℕ) (cs : List Chunk) (y : ℕ) → Laid span q cs → live_in (past_free cs) (q + free_length cs) y ≡ live_in cs q y
-  live-past span [] y w = refl
-  live-past span (d ∷ ds) y w =
+  pub live_past : (span : ℕ) (cs : List Chunk) (y : ℕ) → Laid span q cs → live_in (past_free cs) (q + free_length cs) y ≡ live_in cs q y
+  live_past span [] y w = refl
+  live_past span (d ∷ ds) y w =
       ⊎_elim
       (λ (s : d.1 ≡ 0).
       let f = free_here d ds s in
@@ -296,9 +296,9 @@ module _ (q : ℕ) where
       (λ (s : d.1 ≡ 0 → ⊥). let f = live_first d ds s in ap (λ (z : List Chunk). live_in z (q + free_length (d ∷ ds)) y) f.1 ∙ ap (λ (z : ℕ). live_in (d ∷ ds) z y) (let g = f.0 in let e : q + free_length (d ∷ ds) ≡ q = omega arith in e))
       (cases_eq d.1 0)
 
-  pub laid-past : (span : ℕ) (cs : List Chunk) → q ≤ span → Laid span q cs → (q + free_length cs ≤ span) × (free_length cs % 8 ≡ 0)
-  laid-past span [] h w = (omega arith, refl)
-  laid-past span (d ∷ ds) h w =
+  pub laid_past : (span : ℕ) (cs : List Chunk) → q ≤ span → Laid span q cs → (q + free_length cs ≤ span) × (free_length cs % 8 ≡ 0)
+  laid_past span [] h w = (omega arith, refl)
+  laid_past span (d ∷ ds) h w =
       ⊎_elim
       (λ (s : d.1 ≡ 0). let f = (free_here d ds s).0 in let g = w.0.fits in let e = w.0.eighth in (omega arith, omega arith))
       (λ (s : d.1 ≡ 0 → ⊥). let f = (live_first d ds s).0 in (omega arith, omega arith))

@@ -24,24 +24,24 @@ unfolding walk
 grown_walk xs ys p l h o g w = headers_grown (p - 0) xs ys p (p + 8 + l) 0 l h.before refl (headed_header p l xs ys (p + 8 + l) h o g (omega arith)) w
 
 module _ (xs ys : List ℕ) (cursor n : ℕ) (b : Block) (f : Fresh xs cursor n b) where
-  old-bound : bound_of xs cursor ≡ cursor
-  old-bound = let w = f.fits in omega arith
+  old_bound : bound_of xs cursor ≡ cursor
+  old_bound = let w = f.fits in omega arith
 
-  new-bound : length ys ≡ length xs → bound_of ys (b.0 + b.1) ≡ cursor + 8 + b.1
-  new-bound e = let w = f.fits in let at = f.at in let s : span_of (length ys) ≡ span_of (length xs) = ap span_of e in omega arith
+  new_bound : length ys ≡ length xs → bound_of ys (b.0 + b.1) ≡ cursor + 8 + b.1
+  new_bound e = let w = f.fits in let at = f.at in let s : span_of (length ys) ≡ span_of (length xs) = ap span_of e in omega arith
 
-  pub headed-grant : Headed cursor b.1 xs ys → Grant cursor b xs ys
-  headed-grant h = record {
+  pub headed_grant : Headed cursor b.1 xs ys → Grant cursor b xs ys
+  headed_grant h = record {
     headed = h;
     table =
-        ap (λ (z : ℕ). walk ys z 0) (new-bound h.long)
-        ∙ grown_walk xs ys cursor b.1 h f.some f.eighth (sym (ap (λ (z : ℕ). end_in (walk xs z 0) 0) old-bound) ∙ f.whole)
-        ∙ ap (λ (z : ℕ). table_granted (walk xs z 0) b.1) (sym old-bound);
+        ap (λ (z : ℕ). walk ys z 0) (new_bound h.long)
+        ∙ grown_walk xs ys cursor b.1 h f.some f.eighth (sym (ap (λ (z : ℕ). end_in (walk xs z 0) 0) old_bound) ∙ f.whole)
+        ∙ ap (λ (z : ℕ). table_granted (walk xs z 0) b.1) (sym old_bound);
   }
 
   module _ (g : Grant cursor b xs ys) where
-    grant-live : (x : ℕ) → live_in (table ys (b.0 + b.1)) 0 x ≡ cond (eqb x b.0) b.1 (live_in (table xs cursor) 0 x)
-    grant-live x =
+    grant_live : (x : ℕ) → live_in (table ys (b.0 + b.1)) 0 x ≡ cond (eqb x b.0) b.1 (live_in (table xs cursor) 0 x)
+    grant_live x =
         ap (λ (cs : List Header). live_in cs 0 x) g.table ∙ Live-more (table xs cursor) 0 b.1 x
         ∙ ap (λ (z : ℕ). cond (eqb x z) b.1 (live_in (table xs cursor) 0 x)) (ap (λ (z : ℕ). z + 8) f.whole ∙ sym f.at)
 
@@ -49,7 +49,7 @@ module _ (xs ys : List ℕ) (cursor n : ℕ) (b : Block) (f : Fresh xs cursor n 
     bump-granted = record {
       kind = refl;
       span = ap span_of g.headed.long;
-      live = grant-live;
+      live = grant_live;
       clear = λ x i. let lo = i.from in let hi = i.below in let at = f.at in g.headed.clear x (record { from = omega arith; below = omega arith });
       byte = λ a x i.
           let lo = i.from in
@@ -60,7 +60,7 @@ module _ (xs ys : List ℕ) (cursor n : ℕ) (b : Block) (f : Fresh xs cursor n 
 
     kept-granted : (h : History) → BumpKept h xs cursor → BumpKept (granted n b.0 b.1 ∷ h) ys (b.0 + b.1)
     kept-granted h k = record {
-      live = λ a. grant-live a ∙ ap (λ (z : ℕ). cond (eqb a b.0) b.1 z) (k.live a);
+      live = λ a. grant_live a ∙ ap (λ (z : ℕ). cond (eqb a b.0) b.1 z) (k.live a);
       table = g.table ∙ ap (λ (cs : List Header). table_granted cs b.1) k.table;
       cursor =
           let at = f.at in
@@ -69,8 +69,8 @@ module _ (xs ys : List ℕ) (cursor n : ℕ) (b : Block) (f : Fresh xs cursor n 
           omega arith;
     }
 
-    pub keeps-granted : (zs : List ℕ) (was : ℕ) (h : History) → BumpKeeps zs was h xs cursor → BumpKeeps zs was (granted n b.0 b.1 ∷ h) ys (b.0 + b.1)
-    keeps-granted zs was h k = record {
+    pub keeps_granted : (zs : List ℕ) (was : ℕ) (h : History) → BumpKeeps zs was h xs cursor → BumpKeeps zs was (granted n b.0 b.1 ∷ h) ys (b.0 + b.1)
+    keeps_granted zs was h k = record {
       long = g.headed.long ∙ k.long;
       rest = λ x l.
           let w = f.fits in
@@ -94,29 +94,29 @@ bump_none xs cursor z x = ap (λ (q : ℕ). live_in (table xs q) 0 x) z ∙ ap (
 
 -- the region's table once a state is struck
 module _ (xs ys : List ℕ) (cursor a : ℕ) (was : 0 < live_in (table xs cursor) 0 a) (s : Struck a xs ys) where
-  struck-bound : bound_of ys cursor ≡ bound_of xs cursor
-  struck-bound = ap (λ (z : ℕ). min cursor (span_of z)) s.long
+  struck_bound : bound_of ys cursor ≡ bound_of xs cursor
+  struck_bound = ap (λ (z : ℕ). min cursor (span_of z)) s.long
 
-  struck-table : table ys cursor ≡ ended (table xs cursor) 0 a
+  struck_table : table ys cursor ≡ ended (table xs cursor) 0 a
   unfolding walk
-  struck-table = ap (λ (z : ℕ). headers (z - 0) ys z 0) struck-bound ∙ headers_struck (bound_of xs cursor - 0) xs ys (bound_of xs cursor) 0 a s was
+  struck_table = ap (λ (z : ℕ). headers (z - 0) ys z 0) struck_bound ∙ headers_struck (bound_of xs cursor - 0) xs ys (bound_of xs cursor) 0 a s was
 
-  none-ended : (bound : ℕ) → bound ≡ bound_of ys cursor → none_live (walk ys bound 0) ≡ none_live (ended (table xs cursor) 0 a)
-  none-ended bound e = ap (λ (z : ℕ). none_live (walk ys z 0)) e ∙ ap none_live struck-table
+  none_ended : (bound : ℕ) → bound ≡ bound_of ys cursor → none_live (walk ys bound 0) ≡ none_live (ended (table xs cursor) 0 a)
+  none_ended bound e = ap (λ (z : ℕ). none_live (walk ys z 0)) e ∙ ap none_live struck_table
 
-  pub strike-on : (bound : ℕ) → bound ≡ bound_of ys cursor → true ≡ not (none_live (walk ys bound 0)) → Strike a cursor cursor xs ys
-  strike-on bound e n =
-      let q : none_live (ended (table xs cursor) 0 a) ≡ false = sym (none-ended bound e) ∙ not-true (none_live (walk ys bound 0)) (sym n) in
+  pub strike_on : (bound : ℕ) → bound ≡ bound_of ys cursor → true ≡ not (none_live (walk ys bound 0)) → Strike a cursor cursor xs ys
+  strike_on bound e n =
+      let q : none_live (ended (table xs cursor) 0 a) ≡ false = sym (none_ended bound e) ∙ not-true (none_live (walk ys bound 0)) (sym n) in
       record {
         was = was;
         struck = s;
         moved = sym (cond-false (none_live (ended (table xs cursor) 0 a)) 0 cursor q);
-        table = struck-table ∙ sym (cond-false (none_live (ended (table xs cursor) 0 a)) [] (ended (table xs cursor) 0 a) q);
+        table = struck_table ∙ sym (cond-false (none_live (ended (table xs cursor) 0 a)) [] (ended (table xs cursor) 0 a) q);
       }
 
-  pub strike-over : (bound : ℕ) → bound ≡ bound_of ys cursor → false ≡ not (none_live (walk ys bound 0)) → Strike a cursor 0 xs ys
-  strike-over bound e n =
-      let q : none_live (ended (table xs cursor) 0 a) ≡ true = sym (none-ended bound e) ∙ not-false (none_live (walk ys bound 0)) (sym n) in
+  pub strike_over : (bound : ℕ) → bound ≡ bound_of ys cursor → false ≡ not (none_live (walk ys bound 0)) → Strike a cursor 0 xs ys
+  strike_over bound e n =
+      let q : none_live (ended (table xs cursor) 0 a) ≡ true = sym (none_ended bound e) ∙ not-false (none_live (walk ys bound 0)) (sym n) in
       record {
         was = was;
         struck = s;
@@ -126,14 +126,14 @@ module _ (xs ys : List ℕ) (cursor a : ℕ) (was : 0 < live_in (table xs cursor
 
 -- a free
 module _ (xs ys : List ℕ) (cursor next a : ℕ) (s : Strike a cursor next xs ys) where
-  free-live : (x : ℕ) → live_in (table ys next) 0 x ≡ cond (eqb x a) 0 (live_in (table xs cursor) 0 x)
-  free-live x = ap (λ (cs : List Header). live_in cs 0 x) s.table ∙ live_table_freed (table xs cursor) a x
+  free_live : (x : ℕ) → live_in (table ys next) 0 x ≡ cond (eqb x a) 0 (live_in (table xs cursor) 0 x)
+  free_live x = ap (λ (cs : List Header). live_in cs 0 x) s.table ∙ live_table_freed (table xs cursor) a x
 
-  free-byte : (b x : ℕ) → In b (live_in (table ys next) 0 b) x → get_or ys x 0 ≡ get_or xs x 0
-  free-byte b x i =
+  free_byte : (b x : ℕ) → In b (live_in (table ys next) 0 b) x → get_or ys x 0 ≡ get_or xs x 0
+  free_byte b x i =
       let lo = i.from in
       let hi = i.below in
-      let e = free-live b in
+      let e = free_live b in
       ⊎_elim
       (λ (q : b ≡ a). absurd (let z = cond-true (eqb b a) 0 (live_in (table xs cursor) 0 b) (eq-eqb b a q) in let w : ⊥ = omega arith in w))
       (λ (q : b ≡ a → ⊥).
@@ -144,12 +144,12 @@ module _ (xs ys : List ℕ) (cursor next a : ℕ) (s : Strike a cursor next xs y
       (cases_lt b a))
       (cases_eq b a)
 
-  pub bump-freed : Freed a (bump_means xs cursor) (bump_means ys next)
-  bump-freed = record { kind = refl; span = ap span_of s.struck.long; live = free-live; byte = free-byte }
+  pub bump_freed : Freed a (bump_means xs cursor) (bump_means ys next)
+  bump_freed = record { kind = refl; span = ap span_of s.struck.long; live = free_live; byte = free_byte }
 
-  kept-freed : (h : History) → BumpKept h xs cursor → BumpKept (freed a ∷ h) ys next
-  kept-freed h k = record {
-    live = λ y. free-live y ∙ ap (λ (z : ℕ). cond (eqb y a) 0 z) (k.live y);
+  kept_freed : (h : History) → BumpKept h xs cursor → BumpKept (freed a ∷ h) ys next
+  kept_freed h k = record {
+    live = λ y. free_live y ∙ ap (λ (z : ℕ). cond (eqb y a) 0 z) (k.live y);
     table = s.table ∙ ap (λ (cs : List Header). table_freed cs a) k.table;
     cursor =
         s.moved
@@ -158,14 +158,14 @@ module _ (xs ys : List ℕ) (cursor next a : ℕ) (s : Strike a cursor next xs y
         ∙ sym (end_table_freed (table_after h) a);
   }
 
-  pub keeps-freed : (zs : List ℕ) (was : ℕ) (h : History) → BumpKeeps zs was h xs cursor → BumpKeeps zs was (freed a ∷ h) ys next
-  keeps-freed zs was h k = record {
+  pub keeps_freed : (zs : List ℕ) (was : ℕ) (h : History) → BumpKeeps zs was h xs cursor → BumpKeeps zs was (freed a ∷ h) ys next
+  keeps_freed zs was h k = record {
     long = s.struck.long ∙ k.long;
     rest = λ x l.
         let w = (bump_reach xs cursor a s.was).span in
         let e : span_of (length xs) ≡ span_of (length zs) = ap span_of k.long in
         s.struck.behind x (omega arith) ∙ k.rest x l;
-    kept = λ z. kept-freed h (k.kept z);
+    kept = λ z. kept_freed h (k.kept z);
   }
 
 -- a fill
@@ -205,8 +205,8 @@ module _ (xs ys : List ℕ) (cursor a c v : ℕ) where
       cursor = r.cursor;
     }
 
-    keeps-filled : (zs : List ℕ) (was : ℕ) (h : History) → BumpKeeps zs was h xs cursor → BumpKeeps zs was (filled a c v ∷ h) ys cursor
-    keeps-filled zs was h k = record {
+    keeps_filled : (zs : List ℕ) (was : ℕ) (h : History) → BumpKeeps zs was h xs cursor → BumpKeeps zs was (filled a c v ∷ h) ys cursor
+    keeps_filled zs was h k = record {
       long = p.painted.long ∙ k.long;
       rest = λ x l.
           let w = covered_span xs cursor a c p.some p.covered in
@@ -218,13 +218,13 @@ module _ (xs ys : List ℕ) (cursor a c v : ℕ) where
   same_region : ys ≡ xs → Same (bump_means xs cursor) (bump_means ys cursor)
   same_region e = subst (λ (z : List ℕ). Same (bump_means xs cursor) (bump_means z cursor)) (sym e) (record { kind = refl; span = refl; live = λ a. refl; byte = λ a x i. refl }, λ n. refl)
 
-  pub bump-fills : (r : Result (Unit {0}) Fault) → Paints a c v cursor xs ys r → Fills a c v (bump_means xs cursor) (bump_means ys cursor) r
-  bump-fills (Ok t) p = bump-filled p
-  bump-fills (Err f) p = same_region p
+  pub bump_fills : (r : Result (Unit {0}) Fault) → Paints a c v cursor xs ys r → Fills a c v (bump_means xs cursor) (bump_means ys cursor) r
+  bump_fills (Ok t) p = bump-filled p
+  bump_fills (Err f) p = same_region p
 
-  pub keeps-fills : (zs : List ℕ) (was : ℕ) (h : History) (r : Result (Unit {0}) Fault) → Paints a c v cursor xs ys r → BumpKeeps zs was h xs cursor → BumpKeeps zs was (after_fill a c v r h) ys cursor
-  keeps-fills zs was h (Ok t) p k = keeps-filled p zs was h k
-  keeps-fills zs was h (Err f) p k = subst (λ (z : List ℕ). BumpKeeps zs was h z cursor) (sym p) k
+  pub keeps_fills : (zs : List ℕ) (was : ℕ) (h : History) (r : Result (Unit {0}) Fault) → Paints a c v cursor xs ys r → BumpKeeps zs was h xs cursor → BumpKeeps zs was (after_fill a c v r h) ys cursor
+  keeps_fills zs was h (Ok t) p k = keeps_filled p zs was h k
+  keeps_fills zs was h (Err f) p k = subst (λ (z : List ℕ). BumpKeeps zs was h z cursor) (sym p) k
 
 -- what a bump heap offers after a history, as a computation on the history
 pub offers_after : (h : History) (xs : List ℕ) (cursor n : ℕ) → BumpKept h xs cursor

@@ -6,7 +6,7 @@ use Rattle.heap.specs.declared.fault.Cause.TheVariants.{Full}
 use Rattle.heap.specs.Faults.{raised}
 use Rattle.heap.specs.Meaning.{Block, Lawful, HeapFault, HeapKind, Covered}
 use Rattle.heap.specs.Roundings.{up8}
-use Rattle.heap.proofs.Offers.{admits, admits-large, admits-refused, raised_fault}
+use Rattle.heap.proofs.Offers.{admits, admits_large, admits_refused, raised_fault}
 use Rattle.region.specs.Bytes.{span_of}
 use Rattle.bump.specs.Table.{live_in, end_in, bound_of, table, bump_offer, bump_means}
 use Rattle.bump.proofs.Walks.{Found, laid_walk, laid_found, laid_apart, end_eighth}
@@ -16,14 +16,14 @@ abbrev fits_in : ℕ → ℕ → ℕ → ℕ → ℕ → Result Block Fault
 fits_in n span cursor end u = cond (eqb end cursor) (cond (leb (cursor + 8 + u) span) (Ok (cursor + 8, u)) (Err (raised Full BumpK n))) (Err (raised Full BumpK n))
 
 module _ (n span cursor end u : ℕ) where
-  fits-at : (b : Block) → fits_in n span cursor end u ≡ Ok b → (cursor + 8, u) ≡ b
-  fits-at b e = grind arith
+  fits_at : (b : Block) → fits_in n span cursor end u ≡ Ok b → (cursor + 8, u) ≡ b
+  fits_at b e = grind arith
 
   fits_whole : (b : Block) → fits_in n span cursor end u ≡ Ok b → end ≡ cursor
   fits_whole b e = grind arith
 
-  fits-span : (b : Block) → fits_in n span cursor end u ≡ Ok b → cursor + 8 + u ≤ span
-  fits-span b e = grind arith
+  fits_span : (b : Block) → fits_in n span cursor end u ≡ Ok b → cursor + 8 + u ≤ span
+  fits_span b e = grind arith
 
   fits_refused : (f : Fault) → fits_in n span cursor end u ≡ Err f → raised Full BumpK n ≡ f
   fits_refused f e = grind arith
@@ -44,9 +44,9 @@ fresh xs cursor n b e =
     let d = end_in (table xs cursor) 0 in
     let a = admits 32768 BumpK (bump_offer s (table xs cursor) cursor) n b e in
     let o = a.some in
-    let q = fits-at n s cursor d (up8 n) b a.answer in
+    let q = fits_at n s cursor d (up8 n) b a.answer in
     let w : d ≡ cursor = fits_whole n s cursor d (up8 n) b a.answer in
-    let f = fits-span n s cursor d (up8 n) b a.answer in
+    let f = fits_span n s cursor d (up8 n) b a.answer in
     let g : d % 8 ≡ 0 = end_eighth (bound_of xs cursor) (table xs cursor) 0 (laid_walk xs (bound_of xs cursor) 0) refl in
     let q0 : cursor + 8 ≡ b.0 = ap (λ (z : Block). z.0) q in
     let q1 : up8 n ≡ b.1 = ap (λ (z : Block). z.1) q in
@@ -76,8 +76,8 @@ bump_lawful xs cursor =
       enough = λ n b e. let f = fresh xs cursor n b e in let l = f.long in omega arith;
       unused = λ n b e a h. let f = fresh xs cursor n b e in let at = f.at in let w = (bump_found xs cursor a h).within in inr (omega arith);
       zero = refl;
-      large = λ n h. admits-large 32768 BumpK f n (lit≤ tt) h;
-      refused = λ n g e. admits-refused 32768 BumpK f n bump_kind
+      large = λ n h. admits_large 32768 BumpK f n (lit≤ tt) h;
+      refused = λ n g e. admits_refused 32768 BumpK f n bump_kind
           (λ z q. subst HeapFault (fits_refused n s cursor (end_in (table xs cursor) 0) (up8 n) z q) (raised_fault Full BumpK n tt bump_kind)) g e;
     }
 

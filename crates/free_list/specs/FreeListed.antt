@@ -8,11 +8,11 @@ use Rattle.heap.specs.Checks.{admitted}
 use Rattle.heap.specs.Meaning.{Meaning, Block, Lawful, HeapFault, In, Sits, Apart, Same, SameOffers, Granted, Freed, Filled, Allocates, Frees, Fills}
 use Rattle.heap.specs.Roundings.{LawfulRounding}
 use Rattle.heap.proofs.Lawful.{same_start}
-use Rattle.heap.proofs.Offers.{admits, admits-large, admits-refused, and_then_same, up_ok, up_fault}
+use Rattle.heap.proofs.Offers.{admits, admits_large, admits_refused, and_then_same, up_ok, up_fault}
 use Rattle.free_list.specs.Holdings.{among, without, with_newest}
 use Rattle.free_list.specs.FreeLists.{asked, newest, served_or, unheld, free_list_offer, free_listed, TakesOut, ServesNext}
 use Rattle.free_list.specs.Newest.{Serves, serves, newest_same, newest_push}
-use Rattle.free_list.specs.Unheld.{some-unheld, some_same, in-below, in_some}
+use Rattle.free_list.specs.Unheld.{some_unheld, some_same, in_below, in_some}
 use Rattle.free_list.specs.Addresses.{among_taken_out, among_others, among_push}
 use Rattle.std.proofs.lemmas.Bool.{cond-true, cond-false, eq-eqb, ne_eqb, cases_eq, cases_lt, both_ways, le-leb}
 
@@ -58,7 +58,7 @@ served_apart m k held b w p s a q =
     let l = s.long in
     let e = s.entire in
     let same = some_same held m.live a q in
-    let fresh = some-unheld held m.live a q in
+    let fresh = some_unheld held m.live a q in
     let ne : b.0 ≡ a → ⊥ = λ z. both_ways (among a held) fresh (ap (λ (x : ℕ). among x held) (sym z) ∙ s.among_them) in
     ⊎_elim
     (λ (lt : b.0 < a). let z = w.apart b.0 a (omega arith) lt (omega arith) in inl (omega arith))
@@ -96,8 +96,8 @@ free_listed_lawful L R held m laws w = record {
       (λ (o : m.offer (R n) ≡ Ok b). let z = some_same held m.live a p in subst (λ (c : ℕ). Apart b (a, c)) (sym z) (w.unused (R n) b o a (omega arith)))
       s.from;
   zero = refl;
-  large = λ n h. admits-large L FreeListK (λ q. served_or (newest m.live (R q) held) (m.offer (R q))) n laws.most h;
-  refused = λ n g e. admits-refused L FreeListK (λ q. served_or (newest m.live (R q) held) (m.offer (R q))) n (lit≤ tt, lit≤ tt) (λ f o. served_refused (newest m.live (R n) held) (m.offer (R n)) f (w.refused (R n)) o) g e;
+  large = λ n h. admits_large L FreeListK (λ q. served_or (newest m.live (R q) held) (m.offer (R q))) n laws.most h;
+  refused = λ n g e. admits_refused L FreeListK (λ q. served_or (newest m.live (R q) held) (m.offer (R q))) n (lit≤ tt, lit≤ tt) (λ f o. served_refused (newest m.live (R n) held) (m.offer (R n)) f (w.refused (R n)) o) g e;
 }
 
 -- a block that was taken out of the held ones, or came from below, is live
@@ -111,44 +111,44 @@ granted_live held held' live live' a c eh ea eo x =
 -- What the calls do, from what they do below.
 module _ (L : ℕ) (R : ℕ → ℕ) (held held' : List ℕ) (m m' : Meaning) where
   -- where the heap below offers as before, so does the free list
-  pub offers-kept : held' ≡ held → ((a : ℕ) → m'.live a ≡ m.live a) → SameOffers m m' → SameOffers (free_listed L R held m) (free_listed L R held' m')
-  offers-kept eh el eo n =
+  pub offers_kept : held' ≡ held → ((a : ℕ) → m'.live a ≡ m.live a) → SameOffers m m' → SameOffers (free_listed L R held m) (free_listed L R held' m')
+  offers_kept eh el eo n =
       and_then_same (admitted L FreeListK n) (λ q. served_or (newest m'.live (R q) held') (m'.offer (R q))) (λ q. served_or (newest m.live (R q) held) (m.offer (R q)))
       (λ q. let o = eo (R q) in let s = newest_same m.live m'.live (R q) held el in cc)
 
-  pub refused-same : held' ≡ held → Same m m' → Same (free_listed L R held m) (free_listed L R held' m')
-  refused-same eh s = (
+  pub refused_same : held' ≡ held → Same m m' → Same (free_listed L R held m) (free_listed L R held' m')
+  refused_same eh s = (
     record {
       kind = refl;
       span = s.0.span;
       live = λ a. let l = s.0.live a in cc;
-      byte = λ a x i. s.0.byte a x (in-below held m.live a x i);
+      byte = λ a x i. s.0.byte a x (in_below held m.live a x i);
     },
-    offers-kept eh s.0.live s.1,
+    offers_kept eh s.0.live s.1,
   )
 
   -- a grant: a held block that was cleared
-  pub served-granted : (a c : ℕ) → m.live a ≡ c → held' ≡ without a held → Filled a c 0 m m' → among a held ≡ true → Lawful m → Granted a c (free_listed L R held m) (free_listed L R held' m')
-  served-granted a c ea eh s t w = record {
+  pub served_granted : (a c : ℕ) → m.live a ≡ c → held' ≡ without a held → Filled a c 0 m m' → among a held ≡ true → Lawful m → Granted a c (free_listed L R held m) (free_listed L R held' m')
+  served_granted a c ea eh s t w = record {
     kind = refl;
     span = s.span;
     live = granted_live held held' m.live m'.live a c eh (s.live a ∙ ea) (λ x _. s.live x);
     clear = s.set;
-    byte = λ b x i. s.byte b x (in-below held m.live b x i) (λ j.
-        let same : a ≡ b = same_start m w a b x (subst (λ (d : ℕ). In a d x) (sym ea) j) (in-below held m.live b x i) in
-        both_ways (among a held) (ap (λ (z : ℕ). among z held) same ∙ some-unheld held m.live b (in_some b (unheld held m.live b) x i)) t);
+    byte = λ b x i. s.byte b x (in_below held m.live b x i) (λ j.
+        let same : a ≡ b = same_start m w a b x (subst (λ (d : ℕ). In a d x) (sym ea) j) (in_below held m.live b x i) in
+        both_ways (among a held) (ap (λ (z : ℕ). among z held) same ∙ some_unheld held m.live b (in_some b (unheld held m.live b) x i)) t);
   }
 
   -- or a block from below
-  pub fetched-allocates : (r : Result Block Fault) → TakesOut held held' r → Allocates m m' r → Allocates (free_listed L R held m) (free_listed L R held' m') r
-  fetched-allocates (Ok b) eh s = record {
+  pub fetched_allocates : (r : Result Block Fault) → TakesOut held held' r → Allocates m m' r → Allocates (free_listed L R held m) (free_listed L R held' m') r
+  fetched_allocates (Ok b) eh s = record {
     kind = refl;
     span = s.span;
     live = granted_live held held' m.live m'.live b.0 b.1 eh (s.live b.0 ∙ cond-true (b.0 == b.0) b.1 (m.live b.0) (eq-eqb b.0 b.0 refl)) (λ x ne. s.live x ∙ cond-false (x == b.0) b.1 (m.live x) (ne_eqb x b.0 ne));
     clear = s.clear;
-    byte = λ d x i. s.byte d x (in-below held m.live d x i);
+    byte = λ d x i. s.byte d x (in_below held m.live d x i);
   }
-  fetched-allocates (Err f) eh s = refused-same eh s
+  fetched_allocates (Err f) eh s = refused_same eh s
 
 -- a free that holds the block
 pub held_freed : (L : ℕ) (R : ℕ → ℕ) (held held' : List ℕ) (m : Meaning) (a : ℕ) → held' ≡ with_newest held a → Freed a (free_listed L R held m) (free_listed L R held' m)
@@ -161,25 +161,25 @@ held_freed L R held held' m a eh = record {
 
 module _ (L : ℕ) (R : ℕ → ℕ) (held : List ℕ) (m m' : Meaning) (a : ℕ) where
   -- a free that goes below
-  pub below-frees : (r : Result (Unit {0}) Fault) → Frees a m m' r → Frees a (free_listed L R held m) (free_listed L R held m') (own FreeListK a r)
-  below-frees (Ok t) s = record {
+  pub below_frees : (r : Result (Unit {0}) Fault) → Frees a m m' r → Frees a (free_listed L R held m) (free_listed L R held m') (own FreeListK a r)
+  below_frees (Ok t) s = record {
     kind = refl;
     span = s.span;
     live = λ x. let e = s.live x in grind arith;
-    byte = λ b x i. s.byte b x (in-below held m'.live b x i);
+    byte = λ b x i. s.byte b x (in_below held m'.live b x i);
   }
-  below-frees (Err f) s = refused-same L R held held m m' refl s
+  below_frees (Err f) s = refused_same L R held held m m' refl s
 
-  pub below-fills : (c v : ℕ) (r : Result (Unit {0}) Fault) → Fills a c v m m' r → Fills a c v (free_listed L R held m) (free_listed L R held m') (own FreeListK a r)
-  below-fills c v (Ok t) s = record {
+  pub below_fills : (c v : ℕ) (r : Result (Unit {0}) Fault) → Fills a c v m m' r → Fills a c v (free_listed L R held m) (free_listed L R held m') (own FreeListK a r)
+  below_fills c v (Ok t) s = record {
     kind = refl;
     span = s.span;
     live = λ x. ap (λ (z : ℕ). cond (among x held) 0 z) (s.live x);
     set = s.set;
-    byte = λ d x i o. s.byte d x (in-below held m.live d x i) o;
-    offers = offers-kept L R held held m m' refl s.live s.offers;
+    byte = λ d x i o. s.byte d x (in_below held m.live d x i) o;
+    offers = offers_kept L R held held m m' refl s.live s.offers;
   }
-  below-fills c v (Err f) s = refused-same L R held held m m' refl s
+  below_fills c v (Err f) s = refused_same L R held held m m' refl s
 
 -- The size asked below.
 
@@ -193,11 +193,11 @@ behind R f (Err g) k e = absurd (let z : ◌≡◌ {A = ℕ} 0 1 = cc in let w :
 
 module _ (L : ℕ) (R : ℕ → ℕ) (n k : ℕ) (e : asked L R n ≡ Ok k) where
   -- it is the size rounded, and not 0
-  pub asked-rounded : k ≡ R n
-  asked-rounded = (asked_ok L R n k e).2
+  pub asked_rounded : k ≡ R n
+  asked_rounded = (asked_ok L R n k e).2
 
-  pub asked-some : LawfulRounding L R → 1 ≤ k
-  asked-some laws =
+  pub asked_some : LawfulRounding L R → 1 ≤ k
+  asked_some laws =
       let a = asked_ok L R n k e in
       let p = a.0 in
       let q = a.2 in
@@ -205,11 +205,11 @@ module _ (L : ℕ) (R : ℕ → ℕ) (n k : ℕ) (e : asked L R n ≡ Ok k) wher
       omega arith
 
   -- the answer, once the tests are passed
-  pub answer-served : (held : List ℕ) (m : Meaning) (b : Block) → newest m.live k held ≡ Some b → Ok b ≡ free_list_offer L R held m n
-  answer-served held m b s = sym (behind R (λ z. served_or (newest m.live z held) (m.offer z)) (admitted L FreeListK n) k e ∙ ap (λ (o : Option Block). served_or o (m.offer k)) s)
+  pub answer_served : (held : List ℕ) (m : Meaning) (b : Block) → newest m.live k held ≡ Some b → Ok b ≡ free_list_offer L R held m n
+  answer_served held m b s = sym (behind R (λ z. served_or (newest m.live z held) (m.offer z)) (admitted L FreeListK n) k e ∙ ap (λ (o : Option Block). served_or o (m.offer k)) s)
 
-  pub answer-fetched : (held : List ℕ) (m : Meaning) → newest m.live k held ≡ None → up (m.offer k) ≡ free_list_offer L R held m n
-  answer-fetched held m s = sym (behind R (λ z. served_or (newest m.live z held) (m.offer z)) (admitted L FreeListK n) k e ∙ ap (λ (o : Option Block). served_or o (m.offer k)) s)
+  pub answer_fetched : (held : List ℕ) (m : Meaning) → newest m.live k held ≡ None → up (m.offer k) ≡ free_list_offer L R held m n
+  answer_fetched held m s = sym (behind R (λ z. served_or (newest m.live z held) (m.offer z)) (admitted L FreeListK n) k e ∙ ap (λ (o : Option Block). served_or o (m.offer k)) s)
 
 -- The promise of the laws of a rounding.
 
@@ -235,7 +235,7 @@ serves_next L R held held' m a s laws eh long n p q =
     let same = some_same held m.live a (omega arith) in
     let fits : R n ≤ m.live a = omega arith in
     let found : newest m.live (R n) held' ≡ Some (a, m.live a) = ap (newest m.live (R n)) eh ∙ newest_push m.live (R n) held a ∙ cond-true (nat_le (R n) (m.live a)) _ _ (le-leb (R n) (m.live a) fits) in
-    sym (answer-served L R n (R n) (asked_within L R n p (omega arith)) held' m (a, m.live a) found) ∙ ap (λ (c : ℕ). Ok (a, c)) (sym same)
+    sym (answer_served L R n (R n) (asked_within L R n p (omega arith)) held' m (a, m.live a) found) ∙ ap (λ (c : ℕ). Ok (a, c)) (sym same)
 
 -- and where no live block begins, none was granted
 pub serves_none : (L : ℕ) (R : ℕ → ℕ) (a s : ℕ) (m m' : Meaning) → LawfulRounding L R → m.live a ≡ 0 → (0 < s → R s ≤ m.live a) → ServesNext R a s m m'

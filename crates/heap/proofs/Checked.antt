@@ -42,25 +42,25 @@ pub record Got (k : Kind) (live : ℕ → ℕ) (a : ℕ) (r : Result (Unit {0}) 
   pub refused : (f : Fault) → r ≡ Err f → (Covered live a 1 → ⊥) × (f ≡ raised Outside k a)
 
 module _ (k : Kind) (m : Meaning) (w : Lawful m) (a : ℕ) (found : Option Block) (f : Finds m.live a found) where
-  pub get-checked : Got k m.live a (checked_get k found a)
-  get-checked = record {
+  pub get_checked : Got k m.live a (checked_get k found a)
+  get_checked = record {
     accepted = λ e. reached_yes m.live a 1 found f (grind arith);
     refused = λ g e. ((λ c. reached_no m w a 1 found (omega arith) f (grind arith) c), grind arith);
   }
 
-  pub free-checked : (r : Result (Unit {0}) Fault) → r ≡ checked_free k found a → MayFree k m.live a r
-  free-checked (Ok t) e = let l = begun_is m w a found f in grind arith
-  free-checked (Err g) e = let l = begun_is m w a found f in (grind arith, grind arith)
+  pub free_checked : (r : Result (Unit {0}) Fault) → r ≡ checked_free k found a → MayFree k m.live a r
+  free_checked (Ok t) e = let l = begun_is m w a found f in grind arith
+  free_checked (Err g) e = let l = begun_is m w a found f in (grind arith, grind arith)
 
-  pub fill-some : (c : ℕ) → checked_fill k found a c ≡ Ok tt → 0 < c
-  fill-some c e = grind arith
+  pub fill_some : (c : ℕ) → checked_fill k found a c ≡ Ok tt → 0 < c
+  fill_some c e = grind arith
 
-  pub fill-covered : (c : ℕ) → checked_fill k found a c ≡ Ok tt → Covered m.live a c
-  fill-covered c e = reached_yes m.live a c found f (grind arith)
+  pub fill_covered : (c : ℕ) → checked_fill k found a c ≡ Ok tt → Covered m.live a c
+  fill_covered c e = reached_yes m.live a c found f (grind arith)
 
-  pub fill-checked : (c : ℕ) (r : Result (Unit {0}) Fault) → r ≡ checked_fill k found a c → MayFill k m.live a c r
-  fill-checked c (Ok t) e = (fill-some c (sym e), ∣ fill-covered c (sym e) ∣₁)
-  fill-checked c (Err g) e =
+  pub fill_checked : (c : ℕ) (r : Result (Unit {0}) Fault) → r ≡ checked_fill k found a c → MayFill k m.live a c r
+  fill_checked c (Ok t) e = (fill_some c (sym e), ∣ fill_covered c (sym e) ∣₁)
+  fill_checked c (Err g) e =
       ⊎_elim
       (λ (q : c ≡ 0). inl (q, grind arith))
       (λ (q : c ≡ 0 → ⊥). let some : 0 < c = omega arith in inr (some, (λ i. reached_no m w a c found some f (grind arith) i), grind arith))

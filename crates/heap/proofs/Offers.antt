@@ -26,24 +26,24 @@ handed_fault f h = record { cause = h.cause; kind = h.kind; down = omega arith }
 
 -- a size that passed the tests is the one that was asked
 module _ (largest : ℕ) (k : Kind) (n q : ℕ) (e : admitted largest k n ≡ Ok q) where
-  pub admitted-same : q ≡ n
-  admitted-same = grind arith
+  pub admitted_same : q ≡ n
+  admitted_same = grind arith
 
-  pub admitted-some : 1 ≤ n
-  admitted-some = grind arith
+  pub admitted_some : 1 ≤ n
+  admitted_some = grind arith
 
-  pub admitted-most : n ≤ largest
-  admitted-most = grind arith
+  pub admitted_most : n ≤ largest
+  admitted_most = grind arith
 
 module _ (largest : ℕ) (k : Kind) (f : ℕ → Result Block Fault) (n : ℕ) where
   pub admits : (b : Block) → and_then (admitted largest k n) f ≡ Ok b → Admits largest n (f n) b
   admits b e = record { some = grind arith; most = grind arith; answer = grind arith }
 
-  pub admits-large : largest ≤ 32768 → 32768 < n → and_then (admitted largest k n) f ≡ Err (raised TooLarge k n)
-  admits-large most h = grind arith
+  pub admits_large : largest ≤ 32768 → 32768 < n → and_then (admitted largest k n) f ≡ Err (raised TooLarge k n)
+  admits_large most h = grind arith
 
-  pub admits-refused : HeapKind k → ((g : Fault) → f n ≡ Err g → HeapFault g) → (g : Fault) → and_then (admitted largest k n) f ≡ Err g → HeapFault g
-  admits-refused q below g e =
+  pub admits_refused : HeapKind k → ((g : Fault) → f n ≡ Err g → HeapFault g) → (g : Fault) → and_then (admitted largest k n) f ≡ Err g → HeapFault g
+  admits_refused q below g e =
       ⊎_elim
       (λ (z : n ≡ 0). subst HeapFault (let y : raised Zero k 0 ≡ g = grind arith in y) (raised_fault Zero k 0 tt q))
       (λ (z : n ≡ 0 → ⊥).
@@ -67,9 +67,9 @@ up_fault (Ok a) g h e = absurd (let z : ◌≡◌ {A = ℕ} 0 1 = cc in let w : 
 up_fault (Err f) g h e = subst HeapFault (let y : handed_up f ≡ g = cc in y) (handed_fault f (h f refl))
 
 module _ (k k' : Kind) (live live' : ℕ → ℕ) (a a' : ℕ) where
-  pub own-free : (r : Result (Unit {0}) Fault) → live a ≡ live' a' → MayFree k' live' a' r → MayFree k live a (own k a r)
-  own-free (Ok t) e q = omega arith
-  own-free (Err f) e q = (e ∙ q.0, ap (λ (z : Fault). raised z.cause k a) q.1)
+  pub own_free : (r : Result (Unit {0}) Fault) → live a ≡ live' a' → MayFree k' live' a' r → MayFree k live a (own k a r)
+  own_free (Ok t) e q = omega arith
+  own_free (Err f) e q = (e ∙ q.0, ap (λ (z : Fault). raised z.cause k a) q.1)
 
   module _ (c : ℕ) (into : Covered live a c → Covered live' a' c) (back : Covered live' a' c → Covered live a c) where
     pub own-fill : (r : Result (Unit {0}) Fault) → MayFill k' live' a' c r → MayFill k live a c (own k a r)
@@ -80,10 +80,10 @@ module _ (k k' : Kind) (live live' : ℕ → ℕ) (a a' : ℕ) where
         (λ (z : (0 < c) × (Covered live' a' c → ⊥) × (f ≡ raised Outside k' a')). inr (z.0, (λ i. z.1 (into i)), ap (λ (y : Fault). raised y.cause k a) z.2))
         q
 
-  pub own-get : (byte byte' : ℕ → ℕ) (r : Result ℕ Fault) → (Covered live a 1 → Covered live' a' 1) → (Covered live' a' 1 → Covered live a 1) → byte' a' ≡ byte a
+  pub own_get : (byte byte' : ℕ → ℕ) (r : Result ℕ Fault) → (Covered live a 1 → Covered live' a' 1) → (Covered live' a' 1 → Covered live a 1) → byte' a' ≡ byte a
       → Gets k' live' byte' a' r → Gets k live byte a (own k a r)
-  own-get byte byte' (Ok v) into back e q = (∥∥₁_map q.0 back, q.1 ∙ e)
-  own-get byte byte' (Err f) into back e q = ((λ i. q.0 (into i)), ap (λ (y : Fault). raised y.cause k a) q.1)
+  own_get byte byte' (Ok v) into back e q = (∥∥₁_map q.0 back, q.1 ∙ e)
+  own_get byte byte' (Err f) into back e q = ((λ i. q.0 (into i)), ap (λ (y : Fault). raised y.cause k a) q.1)
 
 pub own_after_free : (k : Kind) (p a : ℕ) (r : Result (Unit {0}) Fault) (h : History) → after_free a (own k p r) h ≡ after_free a r h
 own_after_free k p a (Ok t) h = refl
@@ -95,21 +95,21 @@ own_after_fill k p a c v (Err f) h = refl
 
 -- The calls of a layer that changes offers alone, from those below.
 module _ (k : Kind) (o o' : ℕ → Result Block Fault) (m m' : Meaning) where
-  pub stays-with : Stays m m' → Stays (with_offers k o m) (with_offers k o' m')
-  stays-with s = record { kind = refl; span = s.span; live = s.live; byte = s.byte }
+  pub stays_with : Stays m m' → Stays (with_offers k o m) (with_offers k o' m')
+  stays_with s = record { kind = refl; span = s.span; live = s.live; byte = s.byte }
 
-  pub granted-with : (a c : ℕ) → Granted a c m m' → Granted a c (with_offers k o m) (with_offers k o' m')
-  granted-with a c s = record { kind = refl; span = s.span; live = s.live; clear = s.clear; byte = s.byte }
+  pub granted_with : (a c : ℕ) → Granted a c m m' → Granted a c (with_offers k o m) (with_offers k o' m')
+  granted_with a c s = record { kind = refl; span = s.span; live = s.live; clear = s.clear; byte = s.byte }
 
-  pub freed-with : (a : ℕ) → Freed a m m' → Freed a (with_offers k o m) (with_offers k o' m')
-  freed-with a s = record { kind = refl; span = s.span; live = s.live; byte = s.byte }
+  pub freed_with : (a : ℕ) → Freed a m m' → Freed a (with_offers k o m) (with_offers k o' m')
+  freed_with a s = record { kind = refl; span = s.span; live = s.live; byte = s.byte }
 
   module _ (same : SameOffers m m' → (n : ℕ) → o' n ≡ o n) where
     pub same-with : Same m m' → Same (with_offers k o m) (with_offers k o' m')
-    same-with s = (stays-with s.0, same s.1)
+    same-with s = (stays_with s.0, same s.1)
 
     pub frees-with : (a : ℕ) (r : Result (Unit {0}) Fault) → Frees a m m' r → Frees a (with_offers k o m) (with_offers k o' m') (own k a r)
-    frees-with a (Ok t) s = freed-with a s
+    frees-with a (Ok t) s = freed_with a s
     frees-with a (Err f) s = same-with s
 
     pub fills-with : (a c v : ℕ) (r : Result (Unit {0}) Fault) → Fills a c v m m' r → Fills a c v (with_offers k o m) (with_offers k o' m') (own k a r)
@@ -138,6 +138,6 @@ lawful_with k largest f m q most w from fault =
       enough = λ n b e. let g = offer n b e in let l = w.enough g.size b g.offer in let s = g.least in omega arith;
       unused = λ n b e. let g = offer n b e in w.unused g.size b g.offer;
       zero = refl;
-      large = λ n h. admits-large largest k f n most h;
-      refused = λ n g e. admits-refused largest k f n q (fault n) g e;
+      large = λ n h. admits_large largest k f n most h;
+      refused = λ n g e. admits_refused largest k f n q (fault n) g e;
     }

@@ -9,7 +9,7 @@ use Rattle.heap.specs.Checks.{admitted}
 use Rattle.heap.specs.Meaning.{Meaning, Block, Lawful, HeapFault, Sits, In, Covered, Apart, Stays, Same, SameOffers, Granted, Freed, Filled, MayFree, MayFill, Allocates, Frees, Fills, NothingLive}
 use Rattle.heap.specs.Histories.{History, granted, filled, after_allocate, after_free, after_fill}
 use Rattle.heap.proofs.Lawful.{same_start, surely_filled, surely_entered}
-use Rattle.heap.proofs.Offers.{Admits, admits, admits-large, admits-refused, admitted-same, admitted-some, admitted-most, up_ok, up_fault, and_then_same}
+use Rattle.heap.proofs.Offers.{Admits, admits, admits_large, admits_refused, admitted_same, admitted_some, admitted_most, up_ok, up_fault, and_then_same}
 use Rattle.layers.specs.Affixes.{affix_live, inner_block, affix_offer, affixed, Marked, Whole, AllWhole, sent_affixed}
 use Rattle.std.proofs.lemmas.Bool.{cond-true, cond-false, le-leb, lt-leb, eq-eqb, ne_eqb, cases_eq, cases_lt}
 
@@ -23,14 +23,14 @@ module _ (a l : ℕ) (h : 0 < cond (nat_le 8 a) (cond (nat_le 24 l) (l - 16) 0) 
   from_low : 8 ≤ a
   from_low = grind arith
 
-  from-long : 24 ≤ l
-  from-long = grind arith
+  from_long : 24 ≤ l
+  from_long = grind arith
 
   from_is : cond (nat_le 8 a) (cond (nat_le 24 l) (l - 16) 0) 0 ≡ l - 16
   from_is = grind arith
 
 pub outer : (live : ℕ → ℕ) (a : ℕ) → 0 < affix_live live a → Outer live a
-outer live a h = record { low = from_low a (live (a - 8)) h; long = from-long a (live (a - 8)) h; is = from_is a (live (a - 8)) h }
+outer live a h = record { low = from_low a (live (a - 8)) h; long = from_long a (live (a - 8)) h; is = from_is a (live (a - 8)) h }
 
 -- the block above a block below
 inner_is : (a l : ℕ) → 8 ≤ a → 24 ≤ l → cond (nat_le 8 a) (cond (nat_le 24 l) (l - 16) 0) 0 ≡ l - 16
@@ -128,9 +128,9 @@ pub record Asked (n q : ℕ) (r : Result Block Fault) (b : Block) : Type 0 where
 pub asked : (m : Meaning) → Lawful m → (n q : ℕ) (t : Result ℕ Fault) (r r' : Result Block Fault) (b : Block) → t ≡ admitted 32768 AffixK n → t ≡ Ok q → r ≡ m.offer (q + 16) → r' ≡ up r → r' ≡ Ok b → Asked n q r b
 asked m w n q t r r' b et eq er eu eb =
     let ok = sym et ∙ eq in
-    let same = admitted-same 32768 AffixK n q ok in
-    let some = admitted-some 32768 AffixK n q ok in
-    let most = admitted-most 32768 AffixK n q ok in
+    let same = admitted_same 32768 AffixK n q ok in
+    let some = admitted_some 32768 AffixK n q ok in
+    let most = admitted_most 32768 AffixK n q ok in
     let is = up_ok r b (sym eu ∙ eb) in
     let f = outer_fits m w q b (omega arith) (sym er ∙ is) in
     record { same = same; some = omega arith; most = omega arith; is = is; long = f.0; ends = f.1 }
@@ -211,8 +211,8 @@ affixed_lawful m w = record {
       let fl = f.long in
       ⊎_elim (λ (z : f.outer.0 + 8 + (f.outer.1 - 16) ≤ a - 8 + 8). inl (omega arith)) (λ (z : a - 8 + 8 + (m.live (a - 8) - 16) ≤ f.outer.0 + 8). inr (omega arith)) q;
   zero = refl;
-  large = λ n h. admits-large 32768 AffixK (λ q. and_then (up (m.offer (q + 16))) inner_block) n (lit≤ tt) h;
-  refused = λ n g e. admits-refused 32768 AffixK (λ q. and_then (up (m.offer (q + 16))) inner_block) n (lit≤ tt, lit≤ tt) (λ f q. inner_refused (m.offer (n + 16)) f (w.refused (n + 16)) q) g e;
+  large = λ n h. admits_large 32768 AffixK (λ q. and_then (up (m.offer (q + 16))) inner_block) n (lit≤ tt) h;
+  refused = λ n g e. admits_refused 32768 AffixK (λ q. and_then (up (m.offer (q + 16))) inner_block) n (lit≤ tt, lit≤ tt) (λ f q. inner_refused (m.offer (n + 16)) f (w.refused (n + 16)) q) g e;
 }
 
 affix_offers : (m m' : Meaning) → SameOffers m m' → SameOffers (affixed m) (affixed m')
@@ -248,8 +248,8 @@ none_whole m z a h = absurd (let o = outer m.live a h in let l = o.long in let e
 -- A fill between the marks.
 module _ (m m' : Meaning) (w : Lawful m) (a c v : ℕ) (some : 0 < c) (i : Covered (affix_live m.live) a c) where
   -- it reaches no mark
-  off-marks : (b x : ℕ) → 0 < affix_live m.live b → In (b - 8) (m.live (b - 8)) x → ((x < b) ⊎ (b + affix_live m.live b ≤ x)) → In a c x → ⊥
-  off-marks b x h j out k =
+  off_marks : (b x : ℕ) → 0 < affix_live m.live b → In (b - 8) (m.live (b - 8)) x → ((x < b) ⊎ (b + affix_live m.live b ≤ x)) → In a c x → ⊥
+  off_marks b x h j out k =
       let s = i.start in
       let f = i.from in
       let t = i.to in
@@ -266,8 +266,8 @@ module _ (m m' : Meaning) (w : Lawful m) (a c v : ℕ) (some : 0 < c) (i : Cover
       let l : affix_live m.live b ≡ affix_live m.live s = ap (affix_live m.live) q in
       ⊎_elim (λ (z : x < b). let y : ⊥ = omega arith in y) (λ (z : b + affix_live m.live b ≤ x). let y : ⊥ = omega arith in y) out
 
-  pub affixed-filled : Filled a c v m m' → Filled a c v (affixed m) (affixed m')
-  affixed-filled s = record {
+  pub affixed_filled : Filled a c v m m' → Filled a c v (affixed m) (affixed m')
+  affixed_filled s = record {
     kind = refl;
     span = s.span;
     live = affix_same m.live m'.live s.live;
@@ -276,8 +276,8 @@ module _ (m m' : Meaning) (w : Lawful m) (a c v : ℕ) (some : 0 < c) (i : Cover
     offers = affix_offers m m' s.offers;
   }
 
-  pub whole-filled : Filled a c v m m' → AllWhole m → AllWhole m'
-  whole-filled s k b h =
+  pub whole_filled : Filled a c v m m' → AllWhole m → AllWhole m'
+  whole_filled s k b h =
       let e = affix_same m.live m'.live s.live b in
       let h' : 0 < affix_live m.live b = omega arith in
       let o = outer m.live b h' in
@@ -287,20 +287,20 @@ module _ (m m' : Meaning) (w : Lawful m) (a c v : ℕ) (some : 0 < c) (i : Cover
         head = λ x j.
             let u = in_head m.live b x h' j in
             let hi = j.below in
-            s.byte (b - 8) x u (off-marks b x h' u (inl (omega arith))) ∙ q.head x j;
+            s.byte (b - 8) x u (off_marks b x h' u (inl (omega arith))) ∙ q.head x j;
         tail = λ x j.
             let j' : In (b + affix_live m.live b) 8 x = subst (λ (z : ℕ). In (b + z) 8 x) e j in
             let u = in_tail m.live b x h' j' in
             let lo = j'.from in
-            s.byte (b - 8) x u (off-marks b x h' u (inr lo)) ∙ q.tail x j';
+            s.byte (b - 8) x u (off_marks b x h' u (inr lo)) ∙ q.tail x j';
       }
 
 pub affixed_fills : (m m' : Meaning) → Lawful m → (a c v : ℕ) (r : Result (Unit {0}) Fault) → 0 < c → Covered (affix_live m.live) a c → Fills a c v m m' r → Fills a c v (affixed m) (affixed m') (own AffixK a r)
-affixed_fills m m' w a c v (Ok t) z i s = affixed-filled m m' w a c v z i s
+affixed_fills m m' w a c v (Ok t) z i s = affixed_filled m m' w a c v z i s
 affixed_fills m m' w a c v (Err f) z i s = affixed_same m m' s
 
 pub whole_fills : (m m' : Meaning) → Lawful m → (a c v : ℕ) (r : Result (Unit {0}) Fault) → 0 < c → Covered (affix_live m.live) a c → Fills a c v m m' r → AllWhole m → AllWhole m'
-whole_fills m m' w a c v (Ok t) z i s = whole-filled m m' w a c v z i s
+whole_fills m m' w a c v (Ok t) z i s = whole_filled m m' w a c v z i s
 whole_fills m m' w a c v (Err f) z i s = whole_stays m m' s.0
 
 cond_none : (t : Bool) → cond t (cond (nat_le 24 0) (0 - 16) 0) 0 ≡ 0
@@ -312,8 +312,8 @@ below_8 live x l = cond-false (nat_le 8 x) (cond (nat_le 24 (live (x - 8))) (liv
 
 -- A free of the whole block.
 module _ (m m' : Meaning) (a : ℕ) (h : 0 < affix_live m.live a) (s : Freed (a - 8) m m') where
-  free-live : (x : ℕ) → affix_live m'.live x ≡ cond (x == a) 0 (affix_live m.live x)
-  free-live x =
+  free_live : (x : ℕ) → affix_live m'.live x ≡ cond (x == a) 0 (affix_live m.live x)
+  free_live x =
       let low = (outer m.live a h).low in
       let e = s.live (x - 8) in
       ⊎_elim
@@ -328,20 +328,20 @@ module _ (m m' : Meaning) (a : ℕ) (h : 0 < affix_live m.live a) (s : Freed (a 
       (cases_lt x 8)))
       (cases_eq x a)
 
-  pub affixed-freed : Freed a (affixed m) (affixed m')
-  affixed-freed = record { kind = refl; span = s.span; live = free-live; byte = λ b x i. s.byte (b - 8) x (in_outer m'.live b x i) }
+  pub affixed_freed : Freed a (affixed m) (affixed m')
+  affixed_freed = record { kind = refl; span = s.span; live = free_live; byte = λ b x i. s.byte (b - 8) x (in_outer m'.live b x i) }
 
   -- what is live afterwards was so before, and as long
   still : (b : ℕ) → 0 < affix_live m'.live b → affix_live m'.live b ≡ affix_live m.live b
   still b q =
-      let e = free-live b in
+      let e = free_live b in
       ⊎_elim
       (λ (z : b ≡ a). absurd (let y = cond-true (b == a) 0 (affix_live m.live b) (eq-eqb b a z) in let n : ⊥ = omega arith in n))
       (λ (z : b ≡ a → ⊥). e ∙ cond-false (b == a) 0 (affix_live m.live b) (ne_eqb b a z))
       (cases_eq b a)
 
-  pub whole-freed : AllWhole m → AllWhole m'
-  whole-freed k b q =
+  pub whole_freed : AllWhole m → AllWhole m'
+  whole_freed k b q =
       let e = still b q in
       let w = k b (omega arith) in
       record {
@@ -352,11 +352,11 @@ module _ (m m' : Meaning) (a : ℕ) (h : 0 < affix_live m.live a) (s : Freed (a 
 -- A free of a block that is there is accepted.
 pub affixed_frees : (k : Kind) (m m' : Meaning) (a : ℕ) (r : Result (Unit {0}) Fault) → 0 < affix_live m.live a → MayFree k m.live (a - 8) r → Frees (a - 8) m m' r
     → MayFree AffixK (affix_live m.live) a (own AffixK a r) × Frees a (affixed m) (affixed m') (own AffixK a r)
-affixed_frees k m m' a (Ok t) h q s = (h, affixed-freed m m' a h s)
+affixed_frees k m m' a (Ok t) h q s = (h, affixed_freed m m' a h s)
 affixed_frees k m m' a (Err f) h q s = absurd (let o = outer m.live a h in let l = o.long in let e = q.0 in let z : ⊥ = omega arith in z)
 
 pub whole_frees : (k : Kind) (m m' : Meaning) (a : ℕ) (r : Result (Unit {0}) Fault) → 0 < affix_live m.live a → Frees (a - 8) m m' r → AllWhole m → AllWhole m'
-whole_frees k m m' a (Ok t) h s = whole-freed m m' a h s
+whole_frees k m m' a (Ok t) h s = whole_freed m m' a h s
 whole_frees k m m' a (Err f) h s = whole_stays m m' s.0
 
 pub sent_free : (a : ℕ) (r : Result (Unit {0}) Fault) (h : History) → sent_affixed (after_free a r h) ≡ after_free (a - 8) r (sent_affixed h)
@@ -370,12 +370,12 @@ sent_fill a c v (Err f) h = refl
 -- A grant of the longer block, and its two marks.
 module _ (m m₁ m₂ m₃ : Meaning) (b : Block) (w : Lawful m) (sits : Sits m.span b) (long : 24 ≤ b.1) (unused : (a : ℕ) → 0 < m.live a → Apart b (a, m.live a)) (g : Granted b.0 b.1 m m₁)
     (f₁ : Filled b.0 8 90 m₁ m₂) (f₂ : Filled (b.0 + b.1 - 8) 8 90 m₂ m₃) where
-  grant-below : (x : ℕ) → m₃.live x ≡ cond (x == b.0) b.1 (m.live x)
-  grant-below x = f₂.live x ∙ f₁.live x ∙ g.live x
+  grant_below : (x : ℕ) → m₃.live x ≡ cond (x == b.0) b.1 (m.live x)
+  grant_below x = f₂.live x ∙ f₁.live x ∙ g.live x
 
   -- a byte of a block that was live before is in neither mark
-  pub old-byte : (p x : ℕ) → In p (m.live p) x → m₃.byte x ≡ m.byte x
-  old-byte p x i =
+  pub old_byte : (p x : ℕ) → In p (m.live p) x → m₃.byte x ≡ m.byte x
+  old_byte p x i =
       let lo = i.from in
       let hi = i.below in
       let pos : 0 < m.live p = omega arith in
@@ -389,35 +389,35 @@ module _ (m m₁ m₂ m₃ : Meaning) (b : Block) (w : Lawful m) (sits : Sits m.
       ⊎_elim (λ (z : b.0 + b.1 ≤ p). let q : ⊥ = omega arith in q) (λ (z : p + m.live p ≤ b.0). let q : ⊥ = omega arith in q) (unused p pos) in
       f₂.byte p x i₂ (out (b.0 + b.1 - 8) (omega arith) (omega arith)) ∙ f₁.byte p x i₁ (out b.0 (omega arith) (omega arith)) ∙ g.byte p x i
 
-  new-live : m₂.live b.0 ≡ b.1
-  new-live = f₁.live b.0 ∙ g.live b.0 ∙ cond-true (b.0 == b.0) b.1 (m.live b.0) (eq-eqb b.0 b.0 refl)
+  new_live : m₂.live b.0 ≡ b.1
+  new_live = f₁.live b.0 ∙ g.live b.0 ∙ cond-true (b.0 == b.0) b.1 (m.live b.0) (eq-eqb b.0 b.0 refl)
 
   -- a byte between the marks, and the first mark, under the second
   under_tail : (x : ℕ) → In b.0 (b.1 - 8) x → m₃.byte x ≡ m₂.byte x
   under_tail x i =
       let lo = i.from in
       let hi = i.below in
-      f₂.byte b.0 x (subst (λ (z : ℕ). In b.0 z x) (sym new-live) (record { from = lo; below = omega arith })) (λ j. let jf = j.from in let z : ⊥ = omega arith in z)
+      f₂.byte b.0 x (subst (λ (z : ℕ). In b.0 z x) (sym new_live) (record { from = lo; below = omega arith })) (λ j. let jf = j.from in let z : ⊥ = omega arith in z)
 
-  grant-live : (x : ℕ) → affix_live m₃.live x ≡ cond (x == b.0 + 8) (b.1 - 16) (affix_live m.live x)
-  grant-live x =
+  grant_live : (x : ℕ) → affix_live m₃.live x ≡ cond (x == b.0 + 8) (b.1 - 16) (affix_live m.live x)
+  grant_live x =
       ⊎_elim
       (λ (q : x ≡ b.0 + 8).
-      let e : m₃.live b.0 ≡ b.1 = f₂.live b.0 ∙ new-live in
+      let e : m₃.live b.0 ≡ b.1 = f₂.live b.0 ∙ new_live in
       inner_at m₃.live x b.0 q (omega arith) ∙ ap (λ (z : ℕ). z - 16) e ∙ sym (cond-true (x == b.0 + 8) (b.1 - 16) (affix_live m.live x) (eq-eqb x (b.0 + 8) q)))
       (λ (q : x ≡ b.0 + 8 → ⊥).
       sym (cond-false (x == b.0 + 8) (b.1 - 16) (affix_live m.live x) (ne_eqb x (b.0 + 8) q) ∙
       ⊎_elim
       (λ (l : x < 8). below_8 m.live x l ∙ sym (below_8 m₃.live x l))
-      (λ (l : 8 ≤ x). ap (λ (n : ℕ). cond (nat_le 8 x) (cond (nat_le 24 n) (n - 16) 0) 0) (sym (grant-below (x - 8) ∙ cond-false (x - 8 == b.0) b.1 (m.live (x - 8)) (ne_eqb (x - 8) b.0 (λ y. q (omega arith))))))
+      (λ (l : 8 ≤ x). ap (λ (n : ℕ). cond (nat_le 8 x) (cond (nat_le 24 n) (n - 16) 0) 0) (sym (grant_below (x - 8) ∙ cond-false (x - 8 == b.0) b.1 (m.live (x - 8)) (ne_eqb (x - 8) b.0 (λ y. q (omega arith))))))
       (cases_lt x 8)))
       (cases_eq x (b.0 + 8))
 
-  pub affixed-granted : Granted (b.0 + 8) (b.1 - 16) (affixed m) (affixed m₃)
-  affixed-granted = record {
+  pub affixed_granted : Granted (b.0 + 8) (b.1 - 16) (affixed m) (affixed m₃)
+  affixed_granted = record {
     kind = refl;
     span = f₂.span ∙ f₁.span ∙ g.span;
-    live = grant-live;
+    live = grant_live;
     clear = λ x i.
         let lo = i.from in
         let hi = i.below in
@@ -425,12 +425,12 @@ module _ (m m₁ m₂ m₃ : Meaning) (b : Block) (w : Lawful m) (sits : Sits m.
         under_tail x (record { from = omega arith; below = omega arith })
         ∙ f₁.byte b.0 x i₁ (λ j. let jb = j.below in let z : ⊥ = omega arith in z)
         ∙ g.clear x (record { from = omega arith; below = omega arith });
-    byte = λ p x i. old-byte (p - 8) x (in_outer m.live p x i);
+    byte = λ p x i. old_byte (p - 8) x (in_outer m.live p x i);
   }
 
-  pub whole-granted : AllWhole m → AllWhole m₃
-  whole-granted k p h =
-      let e = grant-live p in
+  pub whole_granted : AllWhole m → AllWhole m₃
+  whole_granted k p h =
+      let e = grant_live p in
       ⊎_elim
       (λ (q : p ≡ b.0 + 8).
       let l : affix_live m₃.live p ≡ b.1 - 16 = e ∙ cond-true (p == b.0 + 8) (b.1 - 16) (affix_live m.live p) (eq-eqb p (b.0 + 8) q) in
@@ -446,55 +446,55 @@ module _ (m m₁ m₂ m₃ : Meaning) (b : Block) (w : Lawful m) (sits : Sits m.
       let h' : 0 < affix_live m.live p = omega arith in
       let o = k p h' in
       record {
-        head = λ x i. old-byte (p - 8) x (in_head m.live p x h' i) ∙ o.head x i;
-        tail = λ x i. let i' : In (p + affix_live m.live p) 8 x = subst (λ (z : ℕ). In (p + z) 8 x) l i in old-byte (p - 8) x (in_tail m.live p x h' i') ∙ o.tail x i';
+        head = λ x i. old_byte (p - 8) x (in_head m.live p x h' i) ∙ o.head x i;
+        tail = λ x i. let i' : In (p + affix_live m.live p) 8 x = subst (λ (z : ℕ). In (p + z) 8 x) l i in old_byte (p - 8) x (in_tail m.live p x h' i') ∙ o.tail x i';
       })
       (cases_eq p (b.0 + 8))
 
 -- the same from what the three calls below answered
 module _ (m m₁ m₂ m₃ : Meaning) (n : ℕ) (b : Block) (r : Result Block Fault) (r₁ r₂ : Result (Unit {0}) Fault) (w : Lawful m) (some : 1 ≤ n) (e : r ≡ m.offer (n + 16)) (is : r ≡ Ok b) (a : Allocates m m₁ r)
     (q₁ : MayFill m₁.kind m₁.live b.0 8 r₁) (s₁ : Fills b.0 8 90 m₁ m₂ r₁) (q₂ : MayFill m₂.kind m₂.live (b.0 + b.1 - 8) 8 r₂) (s₂ : Fills (b.0 + b.1 - 8) 8 90 m₂ m₃ r₂) where
-  grant-sits : Sits m.span b
-  grant-sits = w.offered (n + 16) b (sym e ∙ is)
+  grant_sits : Sits m.span b
+  grant_sits = w.offered (n + 16) b (sym e ∙ is)
 
-  pub grant-long : 24 ≤ b.1
-  grant-long = (outer_fits m w n b some (sym e ∙ is)).0
+  pub grant_long : 24 ≤ b.1
+  grant_long = (outer_fits m w n b some (sym e ∙ is)).0
 
-  grant-is : Granted b.0 b.1 m m₁
-  grant-is = subst (λ (z : Result Block Fault). Allocates m m₁ z) is a
+  grant_is : Granted b.0 b.1 m m₁
+  grant_is = subst (λ (z : Result Block Fault). Allocates m m₁ z) is a
 
   head_live : m₁.live b.0 ≡ b.1
-  head_live = grant-is.live b.0 ∙ cond-true (b.0 == b.0) b.1 (m.live b.0) (eq-eqb b.0 b.0 refl)
+  head_live = grant_is.live b.0 ∙ cond-true (b.0 == b.0) b.1 (m.live b.0) (eq-eqb b.0 b.0 refl)
 
-  head-covered : Covered m₁.live b.0 8
-  head-covered = let l = head_live in let g = grant-long in record { start = b.0; from = omega arith; to = omega arith }
+  head_covered : Covered m₁.live b.0 8
+  head_covered = let l = head_live in let g = grant_long in record { start = b.0; from = omega arith; to = omega arith }
 
-  head-filled : Filled b.0 8 90 m₁ m₂
-  head-filled = surely_filled m₁.kind m₁.live b.0 8 90 m₁ m₂ r₁ (lit≤ tt) head-covered q₁ s₁
+  head_filled : Filled b.0 8 90 m₁ m₂
+  head_filled = surely_filled m₁.kind m₁.live b.0 8 90 m₁ m₂ r₁ (lit≤ tt) head_covered q₁ s₁
 
-  tail-covered : Covered m₂.live (b.0 + b.1 - 8) 8
-  tail-covered = let l = head-filled.live b.0 ∙ head_live in let g = grant-long in record { start = b.0; from = omega arith; to = omega arith }
+  tail_covered : Covered m₂.live (b.0 + b.1 - 8) 8
+  tail_covered = let l = head_filled.live b.0 ∙ head_live in let g = grant_long in record { start = b.0; from = omega arith; to = omega arith }
 
-  tail-filled : Filled (b.0 + b.1 - 8) 8 90 m₂ m₃
-  tail-filled = surely_filled m₂.kind m₂.live (b.0 + b.1 - 8) 8 90 m₂ m₃ r₂ (lit≤ tt) tail-covered q₂ s₂
+  tail_filled : Filled (b.0 + b.1 - 8) 8 90 m₂ m₃
+  tail_filled = surely_filled m₂.kind m₂.live (b.0 + b.1 - 8) 8 90 m₂ m₃ r₂ (lit≤ tt) tail_covered q₂ s₂
 
-  pub marked-granted : Granted (b.0 + 8) (b.1 - 16) (affixed m) (affixed m₃)
-  marked-granted = affixed-granted m m₁ m₂ m₃ b w grant-sits grant-long (w.unused (n + 16) b (sym e ∙ is)) grant-is head-filled tail-filled
+  pub marked_granted : Granted (b.0 + 8) (b.1 - 16) (affixed m) (affixed m₃)
+  marked_granted = affixed_granted m m₁ m₂ m₃ b w grant_sits grant_long (w.unused (n + 16) b (sym e ∙ is)) grant_is head_filled tail_filled
 
-  pub marked-whole : AllWhole m → AllWhole m₃
-  marked-whole = whole-granted m m₁ m₂ m₃ b w grant-sits grant-long (w.unused (n + 16) b (sym e ∙ is)) grant-is head-filled tail-filled
+  pub marked_whole : AllWhole m → AllWhole m₃
+  marked_whole = whole_granted m m₁ m₂ m₃ b w grant_sits grant_long (w.unused (n + 16) b (sym e ∙ is)) grant_is head_filled tail_filled
 
-  pub marked-offer : n ≤ 32768 → affix_offer m n ≡ Ok (b.0 + 8, b.1 - 16)
-  marked-offer most = in_range most ∙ ap (λ (z : Result Block Fault). and_then (up z) inner_block) (sym e ∙ is)
+  pub marked_offer : n ≤ 32768 → affix_offer m n ≡ Ok (b.0 + 8, b.1 - 16)
+  marked_offer most = in_range most ∙ ap (λ (z : Result Block Fault). and_then (up z) inner_block) (sym e ∙ is)
     where
       in_range : n ≤ 32768 → affix_offer m n ≡ and_then (up (m.offer (n + 16))) inner_block
       in_range most = ap (λ (z : Result ℕ Fault). and_then z (λ q. and_then (up (m.offer (q + 16))) inner_block)) (let y : admitted 32768 AffixK n ≡ Ok n = grind arith in y)
 
-  pub marked-sent : (h : History) → after_fill (b.0 + b.1 - 8) 8 90 r₂ (after_fill b.0 8 90 r₁ (after_allocate (n + 16) r (sent_affixed h))) ≡ sent_affixed (granted n (b.0 + 8) (b.1 - 16) ∷ h)
-  marked-sent h =
-      let l = grant-long in
-      let z₂ = surely_entered m₂.kind m₂.live (b.0 + b.1 - 8) 8 90 r₂ (after_fill b.0 8 90 r₁ (after_allocate (n + 16) r (sent_affixed h))) (lit≤ tt) tail-covered q₂ in
-      let z₁ = surely_entered m₁.kind m₁.live b.0 8 90 r₁ (after_allocate (n + 16) r (sent_affixed h)) (lit≤ tt) head-covered q₁ in
+  pub marked_sent : (h : History) → after_fill (b.0 + b.1 - 8) 8 90 r₂ (after_fill b.0 8 90 r₁ (after_allocate (n + 16) r (sent_affixed h))) ≡ sent_affixed (granted n (b.0 + 8) (b.1 - 16) ∷ h)
+  marked_sent h =
+      let l = grant_long in
+      let z₂ = surely_entered m₂.kind m₂.live (b.0 + b.1 - 8) 8 90 r₂ (after_fill b.0 8 90 r₁ (after_allocate (n + 16) r (sent_affixed h))) (lit≤ tt) tail_covered q₂ in
+      let z₁ = surely_entered m₁.kind m₁.live b.0 8 90 r₁ (after_allocate (n + 16) r (sent_affixed h)) (lit≤ tt) head_covered q₁ in
       let z₀ : after_allocate (n + 16) r (sent_affixed h) ≡ granted (n + 16) b.0 b.1 ∷ sent_affixed h = ap (λ (z : Result Block Fault). after_allocate (n + 16) z (sent_affixed h)) is in
       let e₁ : b.0 + b.1 - 8 ≡ b.0 + 8 + (b.1 - 16) = omega arith in
       let e₂ : b.0 ≡ b.0 + 8 - 8 = omega arith in

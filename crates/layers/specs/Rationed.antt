@@ -8,7 +8,7 @@ use Rattle.heap.specs.Faults.{raised, up, own, and_then}
 use Rattle.heap.specs.Checks.{admitted}
 use Rattle.heap.specs.Meaning.{Meaning, Block, Lawful, HeapFault, SameOffers, Same, MayFree, MayFill, Allocates, Frees, Fills, with_offers}
 use Rattle.heap.proofs.Lawful.{offered_free, offered_below}
-use Rattle.heap.proofs.Offers.{Admits, From, admits, up_ok, up_fault, raised_fault, lawful_with, and_then_same, granted-with, freed-with, same-with, fills-with}
+use Rattle.heap.proofs.Offers.{Admits, From, admits, up_ok, up_fault, raised_fault, lawful_with, and_then_same, granted_with, freed_with, same-with, fills-with}
 use Rattle.layers.specs.Quotas.{within_limit, quota_offer, rationed, Charges, Credits, Paid}
 use Rattle.layers.specs.Accounts.{granted_paid, freed_paid, stays_paid, stays_paid_live}
 
@@ -38,38 +38,38 @@ same_offers l l' acc acc' m m' el ea s n =
     (λ q. let o = s q in cc)
 
 module _ (l l' acc acc' : ℕ) (m m' : Meaning) (el : l' ≡ l) where
-  pub rationed-same : acc' ≡ acc → Same m m' → Same (rationed l acc m) (rationed l' acc' m')
-  rationed-same ea s = same-with QuotaK (quota_offer l acc m) (quota_offer l' acc' m') m m' (same_offers l l' acc acc' m m' el ea) s
+  pub rationed_same : acc' ≡ acc → Same m m' → Same (rationed l acc m) (rationed l' acc' m')
+  rationed_same ea s = same-with QuotaK (quota_offer l acc m) (quota_offer l' acc' m') m m' (same_offers l l' acc acc' m m' el ea) s
 
-  pub rationed-allocates : (r : Result Block Fault) → Charges acc acc' r → Allocates m m' r → Allocates (rationed l acc m) (rationed l' acc' m') r
-  rationed-allocates (Ok b) ea s = granted-with QuotaK (quota_offer l acc m) (quota_offer l' acc' m') m m' b.0 b.1 s
-  rationed-allocates (Err f) ea s = rationed-same ea s
+  pub rationed_allocates : (r : Result Block Fault) → Charges acc acc' r → Allocates m m' r → Allocates (rationed l acc m) (rationed l' acc' m') r
+  rationed_allocates (Ok b) ea s = granted_with QuotaK (quota_offer l acc m) (quota_offer l' acc' m') m m' b.0 b.1 s
+  rationed_allocates (Err f) ea s = rationed_same ea s
 
-  pub rationed-frees : (a : ℕ) (r : Result (Unit {0}) Fault) → Credits acc acc' (m.live a) r → Frees a m m' r → Frees a (rationed l acc m) (rationed l' acc' m') (own QuotaK a r)
-  rationed-frees a (Ok t) ea s = freed-with QuotaK (quota_offer l acc m) (quota_offer l' acc' m') m m' a s
-  rationed-frees a (Err f) ea s = rationed-same ea s
+  pub rationed_frees : (a : ℕ) (r : Result (Unit {0}) Fault) → Credits acc acc' (m.live a) r → Frees a m m' r → Frees a (rationed l acc m) (rationed l' acc' m') (own QuotaK a r)
+  rationed_frees a (Ok t) ea s = freed_with QuotaK (quota_offer l acc m) (quota_offer l' acc' m') m m' a s
+  rationed_frees a (Err f) ea s = rationed_same ea s
 
-  pub paid-granted : (n : ℕ) (r : Result Block Fault) → Lawful m → r ≡ quota_offer l acc m n → Charges acc acc' r → Allocates m m' r → Paid l acc m → Paid l' acc' m'
-  paid-granted n (Ok b) w e ea s p =
+  pub paid_granted : (n : ℕ) (r : Result Block Fault) → Lawful m → r ≡ quota_offer l acc m n → Charges acc acc' r → Allocates m m' r → Paid l acc m → Paid l' acc' m'
+  paid_granted n (Ok b) w e ea s p =
       let q = (admits 32768 QuotaK (λ z. and_then (up (m.offer z)) (within_limit l acc z)) n b (sym e)).answer in
       let offer = passes l acc n (m.offer n) b q in
       let le = within l acc n (m.offer n) b q in
       let y = granted_paid l acc b.1 m m' b.0 s (offered_free m n b w offer) (offered_below m n b w offer) le p in
       let a = y.all in
       record { all = omega arith; within = omega arith }
-  paid-granted n (Err f) w e ea s p =
+  paid_granted n (Err f) w e ea s p =
       let y = stays_paid l acc m m' s.0 p in
       let a = y.all in
       let k = y.within in
       record { all = omega arith; within = omega arith }
 
-  pub paid-freed : (a : ℕ) (r : Result (Unit {0}) Fault) → Lawful m → MayFree m.kind m.live a r → Credits acc acc' (m.live a) r → Frees a m m' r → Paid l acc m → Paid l' acc' m'
-  paid-freed a (Ok t) w q ea s p =
+  pub paid_freed : (a : ℕ) (r : Result (Unit {0}) Fault) → Lawful m → MayFree m.kind m.live a r → Credits acc acc' (m.live a) r → Frees a m m' r → Paid l acc m → Paid l' acc' m'
+  paid_freed a (Ok t) w q ea s p =
       let y = freed_paid l acc m m' a w q s p in
       let all = y.all in
       let k = y.within in
       record { all = omega arith; within = omega arith }
-  paid-freed a (Err f) w q ea s p =
+  paid_freed a (Err f) w q ea s p =
       let y = stays_paid l acc m m' s.0 p in
       let all = y.all in
       let k = y.within in

@@ -31,8 +31,8 @@ module _ (ss : List Slot) (h : History) (m m' : Meaning) (i : ℕ) (few : i < 25
   within = let e = k.table in omega arith
 
   -- a block comes into an empty slot
-  pub stored-granted : (n a c : ℕ) → get_or ss i Empty ≡ Empty → Lawful m → m.offer n ≡ Ok (a, c) → GrantedTo a c m m' → Stored (set ss i (Held a c)) (granted n a c ∷ h) m'
-  stored-granted n a c empty w o g =
+  pub stored_granted : (n a c : ℕ) → get_or ss i Empty ≡ Empty → Lawful m → m.offer n ≡ Ok (a, c) → GrantedTo a c m m' → Stored (set ss i (Held a c)) (granted n a c ∷ h) m'
+  stored_granted n a c empty w o g =
       let sits = w.offered n (a, c) o in
       let span = w.span_bound in
       let some = sits.some in
@@ -80,8 +80,8 @@ module _ (ss : List Slot) (h : History) (m m' : Meaning) (i : ℕ) (few : i < 25
       }
 
   -- the block of a slot ends
-  pub stored-freed : (a c : ℕ) → get_or ss i Empty ≡ Held a c → FreedFrom a m m' → Stored (set ss i Empty) (freed a ∷ h) m'
-  stored-freed a c held f =
+  pub stored_freed : (a c : ℕ) → get_or ss i Empty ≡ Held a c → FreedFrom a m m' → Stored (set ss i Empty) (freed a ∷ h) m'
+  stored_freed a c held f =
       let there : (j b d : ℕ) → get_or (set ss i Empty) j Empty ≡ Held b d → get_or ss j Empty ≡ Held b d = λ j b d q. ⊎_elim
       (λ (e : j ≡ i). never b d (sym (get_or-set_same ss i Empty Empty within) ∙ ap (λ (z : ℕ). get_or (set ss i Empty) z Empty) (sym e) ∙ q))
       (λ (e : j ≡ i → ⊥). sym (get_or-set_other ss i j Empty Empty e) ∙ q)

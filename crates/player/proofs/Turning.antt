@@ -16,7 +16,7 @@ use Rattle.player.specs.declared.slots.Slot.{Slot}
 use Rattle.player.specs.declared.slots.Slot.TheVariants.{Empty, Held}
 use Rattle.player.specs.Turns.{Turned, taken, granted, denied, none_to_free, freed, unfreed, none_to_fill, filled, unfilled, relieved}
 use Rattle.player.specs.Replays.{Stored, slot_blocks, slot_bytes, load_in}
-use Rattle.player.proofs.Storing.{restored, stored-granted, stored-freed, load_set}
+use Rattle.player.proofs.Storing.{restored, stored_granted, stored_freed, load_set}
 
 same_slot : (ss : List Slot) (i : ℕ) (s : Slot) → get_or ss i Empty ≡ s → set ss i s ≡ ss
 same_slot ss i s e = subst (λ (z : Slot). set ss i z ≡ ss) e (set-get_or ss i Empty)
@@ -27,10 +27,10 @@ same_stored ss i s h h' m m' e b l k = subst (λ (z : List Slot). Stored z h' m'
 
 pub stored_turned : (ss : List Slot) (h : History) (m m' : Meaning) (x : Action) (s s' : Slot) (o : Outcome) (us : List Step) → id_of x < 256 → get_or ss (id_of x) Empty ≡ s → Turned x s o us s' → Ran us m m' → Lawful m → Stored ss h m → Stored (set ss (id_of x) s') (after_steps us h) m'
 stored_turned ss h m m' _ _ _ _ _ few e (taken {i = i} {a = a} {c = c}) none w k = same_stored ss i (Held a c) h h m m e (λ b. refl) (λ b. refl) k
-stored_turned ss h m m' _ _ _ _ _ few e (granted {i = i} {n = n} {a = a} {c = c}) (more (runs.allocated q g) v none) w k = stored-granted ss h m m' i few k n a c e w (sym q) g
+stored_turned ss h m m' _ _ _ _ _ few e (granted {i = i} {n = n} {a = a} {c = c}) (more (runs.allocated q g) v none) w k = stored_granted ss h m m' i few k n a c e w (sym q) g
 stored_turned ss h m m' _ _ _ _ _ few e (denied {i = i}) (more (runs.allocated q g) v none) w k = same_stored ss i Empty h h m m' e (λ b. refl) g.0.live k
 stored_turned ss h m m' _ _ _ _ _ few e (none_to_free {i = i}) none w k = same_stored ss i Empty h h m m e (λ b. refl) (λ b. refl) k
-stored_turned ss h m m' _ _ _ _ _ few e (freed {i = i} {a = a} {c = c}) (more (runs.freed q g) v none) w k = stored-freed ss h m m' i few k a c e g
+stored_turned ss h m m' _ _ _ _ _ few e (freed {i = i} {a = a} {c = c}) (more (runs.freed q g) v none) w k = stored_freed ss h m m' i few k a c e g
 stored_turned ss h m m' _ _ _ _ _ few e (unfreed {i = i} {a = a} {c = c}) (more (runs.freed q g) v none) w k = same_stored ss i (Held a c) h h m m' e (λ b. refl) g.0.live k
 stored_turned ss h m m' _ _ _ _ _ few e (none_to_fill {i = i}) none w k = same_stored ss i Empty h h m m e (λ b. refl) (λ b. refl) k
 stored_turned ss h m m' _ _ _ _ _ few e (filled {i = i} {v = v} {a = a} {c = c}) (more (runs.filled q g) u none) w k = same_stored ss i (Held a c) h (histories.filled a c v ∷ h) m m' e (λ b. refl) g.live k

@@ -37,8 +37,8 @@ actions_next f fs rest xs all r e w a =
     ∙ sym (append_assoc xs (listed r) (actions_in rest))
 
 module _ {S : Type 0} (means : S → Meaning) (keeps : S → History → S → Type 0) where
-  pub going-none : (s : S) (slots : List Slot) (t : Tally) → slots ≡ no_blocks → t ≡ tally_of [] → Going means keeps [] [] slots t s s
-  going-none s slots t e f = subst (λ (z : List Slot). Going means keeps [] [] z t s s) (sym e) (record {
+  pub going_none : (s : S) (slots : List Slot) (t : Tally) → slots ≡ no_blocks → t ≡ tally_of [] → Going means keeps [] [] slots t s s
+  going_none s slots t e f = subst (λ (z : List Slot). Going means keeps [] [] z t s s) (sym e) (record {
     steps = [];
     played = none;
     ran = runs.none;

@@ -44,8 +44,8 @@ four_bytes v h =
     chained v q r s (v % 256) (q % 256) (r % 256) (s % 256) e0 e1 e2 e3
 
 module _ (xs : List ℕ) (p a b c d : ℕ) (h : p + 4 ≤ length xs) where
-  at-0 : get_or (set (set (set (set xs p a) (p + 1) b) (p + 2) c) (p + 3) d) p 0 ≡ a
-  at-0 =
+  at_0 : get_or (set (set (set (set xs p a) (p + 1) b) (p + 2) c) (p + 3) d) p 0 ≡ a
+  at_0 =
       let n1 : p ≢ p + 1 = λ q. omega arith in
       let n2 : p ≢ p + 2 = λ q. omega arith in
       let n3 : p ≢ p + 3 = λ q. omega arith in
@@ -59,23 +59,23 @@ module _ (xs : List ℕ) (p a b c d : ℕ) (h : p + 4 ≤ length xs) where
       let l : p + 1 < length (set xs p a) = simp length-set (omega arith) in
       rw (get_or-set_other, get_or-set_other, get_or-set_same) refl
 
-  at-2 : get_or (set (set (set (set xs p a) (p + 1) b) (p + 2) c) (p + 3) d) (p + 2) 0 ≡ c
-  at-2 =
+  at_2 : get_or (set (set (set (set xs p a) (p + 1) b) (p + 2) c) (p + 3) d) (p + 2) 0 ≡ c
+  at_2 =
       let n3 : p + 2 ≢ p + 3 = λ q. omega arith in
       let l : p + 2 < length (set (set xs p a) (p + 1) b) = simp length-set (omega arith) in
       rw (get_or-set_other, get_or-set_same) refl
 
-  at-3 : get_or (set (set (set (set xs p a) (p + 1) b) (p + 2) c) (p + 3) d) (p + 3) 0 ≡ d
-  at-3 =
+  at_3 : get_or (set (set (set (set xs p a) (p + 1) b) (p + 2) c) (p + 3) d) (p + 3) 0 ≡ d
+  at_3 =
       let l : p + 3 < length (set (set (set xs p a) (p + 1) b) (p + 2) c) = simp length-set (omega arith) in
       rw get_or-set_same refl
 
 pub word_put : (xs : List ℕ) (p v : ℕ) → p + 4 ≤ length xs → v < 4294967296 → word_at (put_word xs p v) p ≡ v
 unfolding word_at put_word
 word_put xs p v h f =
-    let a = at-0 xs p (v % 256) (v / 256 % 256) (v / 65536 % 256) (v / 16777216 % 256) h in
+    let a = at_0 xs p (v % 256) (v / 256 % 256) (v / 65536 % 256) (v / 16777216 % 256) h in
     let b = at_1 xs p (v % 256) (v / 256 % 256) (v / 65536 % 256) (v / 16777216 % 256) h in
-    let c = at-2 xs p (v % 256) (v / 256 % 256) (v / 65536 % 256) (v / 16777216 % 256) h in
-    let d = at-3 xs p (v % 256) (v / 256 % 256) (v / 65536 % 256) (v / 16777216 % 256) h in
+    let c = at_2 xs p (v % 256) (v / 256 % 256) (v / 65536 % 256) (v / 16777216 % 256) h in
+    let d = at_3 xs p (v % 256) (v / 256 % 256) (v / 65536 % 256) (v / 16777216 % 256) h in
     let e = four_bytes v f in
     omega arith

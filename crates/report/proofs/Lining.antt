@@ -61,13 +61,13 @@ kind_some k n h = cond-false (eqb n 0) _ _ (ne_eqb n 0 (λ e. omega arith))
 
 -- one kind more, with no line and with one
 module _ (out out' : List ℕ) (at n : ℕ) (ns : List ℕ) (i : ℕ) (h : i < length ns) (room : at ≤ length out) (w : Laid out at (kind_lines 0 (take i ns)) n out') where
-  pub kind-passed : get_or ns i 0 ≤ 0 → Laid out at (kind_lines 0 (take (i + 1) ns)) n out'
-  kind-passed z =
+  pub kind_passed : get_or ns i 0 ≤ 0 → Laid out at (kind_lines 0 (take (i + 1) ns)) n out'
+  kind_passed z =
       let P : List ℕ → Type 0 = λ t. Laid out at t n out' in
       subst P (sym (append-nil _) ∙ ap (λ (t : List ℕ). kind_lines 0 (take i ns) ++ t) (sym (kind_none i (get_or ns i 0) z)) ∙ sym (kinds_more ns i h)) w
 
-  pub kind-laid : (out'' : List ℕ) (m : ℕ) → 0 < get_or ns i 0 → Laid out' n (line (Byte 18 ∷ Byte i ∷ Word (get_or ns i 0) ∷ [])) m out'' → Laid out at (kind_lines 0 (take (i + 1) ns)) m out''
-  kind-laid out'' m z v =
+  pub kind_laid : (out'' : List ℕ) (m : ℕ) → 0 < get_or ns i 0 → Laid out' n (line (Byte 18 ∷ Byte i ∷ Word (get_or ns i 0) ∷ [])) m out'' → Laid out at (kind_lines 0 (take (i + 1) ns)) m out''
+  kind_laid out'' m z v =
       let P : List ℕ → Type 0 = λ t. Laid out at t m out'' in
       subst P (ap (λ (t : List ℕ). kind_lines 0 (take i ns) ++ t) (sym (kind_some i (get_or ns i 0) z)) ∙ sym (kinds_more ns i h))
       (laid_on out out' out'' at n m (kind_lines 0 (take i ns)) (line (Byte 18 ∷ Byte i ∷ Word (get_or ns i 0) ∷ [])) room w v)

@@ -28,11 +28,11 @@ pub lowest : (a b c d n : ℕ) → d < 256 → n ≡ a * 16777216 + b * 65536 + 
 lowest a b c d n s e = omega arith
 
 module _ (xs : List ℕ) (n : ℕ) (some : 6 ≤ length xs) (e : n ≡ get_or xs 2 0 * 16777216 + get_or xs 3 0 * 65536 + get_or xs 4 0 * 256 + get_or xs 5 0) where
-  pub read-frames : frames_of xs ≡ record { kind = get_or xs 0 0; id = get_or xs 1 0; number = n } ∷ frames_of (take (length xs - 6) (drop 6 xs))
-  read-frames = ap frames_of (six xs some) ∙ (let t = take_rest xs 6 in rw (t, e) refl)
+  pub read_frames : frames_of xs ≡ record { kind = get_or xs 0 0; id = get_or xs 1 0; number = n } ∷ frames_of (take (length xs - 6) (drop 6 xs))
+  read_frames = ap frames_of (six xs some) ∙ (let t = take_rest xs 6 in rw (t, e) refl)
 
-  pub read-bytes : ((i : ℕ) → get_or xs i 0 < 256) → xs ≡ frame_bytes (record { kind = get_or xs 0 0; id = get_or xs 1 0; number = n }) ++ take (length xs - 6) (drop 6 xs)
-  read-bytes b =
+  pub read_bytes : ((i : ℕ) → get_or xs i 0 < 256) → xs ≡ frame_bytes (record { kind = get_or xs 0 0; id = get_or xs 1 0; number = n }) ++ take (length xs - 6) (drop 6 xs)
+  read_bytes b =
       let p = highest (get_or xs 2 0) (get_or xs 3 0) (get_or xs 4 0) (get_or xs 5 0) n (b 2) (b 3) (b 4) (b 5) e in
       let q = second (get_or xs 2 0) (get_or xs 3 0) (get_or xs 4 0) (get_or xs 5 0) n (b 3) (b 4) (b 5) e in
       let r = third (get_or xs 2 0) (get_or xs 3 0) (get_or xs 4 0) (get_or xs 5 0) n (b 4) (b 5) e in

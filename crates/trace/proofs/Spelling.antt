@@ -12,8 +12,8 @@ next text i h =
     ap bytes_in (a ∙ ap (λ (z : List ℕ). get_or text (2 * i) 0 ∷ z) b) ∙ ap (λ (n : ℕ). in_front (pair_value (get_or text (2 * i) 0) (get_or text (2 * i + 1) 0)) (bytes_in (drop n text))) e
 
 module _ (text bytes : List ℕ) (i : ℕ) (all : Option (List ℕ)) (h : 2 * i + 1 < length text) (w : all ≡ behind (take i bytes) (bytes_in (drop (2 * i) text))) where
-  pub spelled-more : (b : ℕ) → i < length bytes → Some b ≡ pair_value (get_or text (2 * i) 0) (get_or text (2 * i + 1) 0) → all ≡ behind (take (i + 1) (set bytes i b)) (bytes_in (drop (2 * (i + 1)) text))
-  spelled-more b l e =
+  pub spelled_more : (b : ℕ) → i < length bytes → Some b ≡ pair_value (get_or text (2 * i) 0) (get_or text (2 * i + 1) 0) → all ≡ behind (take (i + 1) (set bytes i b)) (bytes_in (drop (2 * (i + 1)) text))
+  spelled_more b l e =
       w ∙ ap (behind (take i bytes)) (next text i h)
       ∙ ap (λ (z : Option ℕ). behind (take i bytes) (in_front z (bytes_in (drop (2 * (i + 1)) text)))) (sym e)
       ∙ moved (bytes_in (drop (2 * (i + 1)) text))

@@ -4,7 +4,7 @@ use Rattle.heap.specs.Meaning.{Block}
 use Rattle.bitmap.specs.Words.{bit_in}
 use Rattle.bitmap.specs.Cells.{bitmap_means}
 use Rattle.bitmap.proofs.Laws.{bitmap_lawful}
-use Rattle.bitmap.proofs.Calls.{offer_at, bitmap-granted, keeps-granted, bitmap_same, keeps_same}
+use Rattle.bitmap.proofs.Calls.{offer_at, bitmap_granted, keeps_granted, bitmap_same, keeps_same}
 use Rattle.bitmap.proofs.BitmapHeap.allocate.Goals as goal
 
 pub returns : goal.returns
@@ -22,8 +22,8 @@ returns c =
     let p = c.paint.ensures.inside (omega arith) in
     record {
       answer = o;
-      after = bitmap-granted xs ys u f u' f' c.args.n b (sym o) e.after p;
-      kept = λ from h k. keeps-granted xs ys u f u' f' c.args.n b (sym o) e.after p from.region.now (bit_in from.maps.used) (bit_in from.maps.first) h k;
+      after = bitmap_granted xs ys u f u' f' c.args.n b (sym o) e.after p;
+      kept = λ from h k. keeps_granted xs ys u f u' f' c.args.n b (sym o) e.after p from.region.now (bit_in from.maps.used) (bit_in from.maps.first) h k;
     }
 
 pub returns-in-err-block : goal.returns-in-err-block

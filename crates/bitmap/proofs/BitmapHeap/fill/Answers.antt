@@ -4,11 +4,11 @@ use Rattle.heap.specs.declared.fault.Kind.TheVariants.{Bitmap as BitmapK}
 use Rattle.heap.specs.Meaning.{Covered}
 use Rattle.heap.specs.Checks.{checked_fill}
 use Rattle.heap.proofs.Lawful.{unchanged}
-use Rattle.heap.proofs.Checked.{fill-some, fill-covered, fill-checked}
+use Rattle.heap.proofs.Checked.{fill_some, fill_covered, fill_checked}
 use Rattle.bitmap.specs.Words.{bit_in}
 use Rattle.bitmap.specs.Cells.{cells_of, bitmap_live, bitmap_means}
 use Rattle.bitmap.proofs.Laws.{bitmap_lawful, covered_region}
-use Rattle.bitmap.proofs.Calls.{finds_at, bitmap-filled, keeps-filled}
+use Rattle.bitmap.proofs.Calls.{finds_at, bitmap_filled, keeps_filled}
 use Rattle.bitmap.proofs.BitmapHeap.fill.Goals as goal
 
 pub returns : goal.returns
@@ -21,13 +21,13 @@ returns c =
     let n = c.args.c in
     let finds = finds_at xs u f c.count-cells-cells.result a c.find.result c.count-cells-cells.ensures c.find.ensures in
     let ok : checked_fill BitmapK c.find.result a n ≡ Ok tt = sym c.check-fill.ensures ∙ c.in-ok-check-fill.was in
-    let z : 0 < n = fill-some BitmapK (bitmap_means xs u f) (bitmap_lawful xs u f) a c.find.result finds n ok in
-    let k : Covered (bitmap_live u f (cells_of (length xs))) a n = fill-covered BitmapK (bitmap_means xs u f) (bitmap_lawful xs u f) a c.find.result finds n ok in
+    let z : 0 < n = fill_some BitmapK (bitmap_means xs u f) (bitmap_lawful xs u f) a c.find.result finds n ok in
+    let k : Covered (bitmap_live u f (cells_of (length xs))) a n = fill_covered BitmapK (bitmap_means xs u f) (bitmap_lawful xs u f) a c.find.result finds n ok in
     let p = c.paint.ensures.inside (covered_region xs u f a n z k) in
     record {
       answer = (z, ∣ k ∣₁);
-      after = bitmap-filled xs ys u f a n c.args.b z k p;
-      kept = λ from h r. keeps-filled xs ys u f a n c.args.b z k p from.region.now (bit_in from.maps.used) (bit_in from.maps.first) h r;
+      after = bitmap_filled xs ys u f a n c.args.b z k p;
+      kept = λ from h r. keeps_filled xs ys u f a n c.args.b z k p from.region.now (bit_in from.maps.used) (bit_in from.maps.first) h r;
     }
 
 pub returns-in-err-check-fill : goal.returns-in-err-check-fill
@@ -38,7 +38,7 @@ returns-in-err-check-fill c =
     let finds = finds_at xs u f c.count-cells-cells.result c.args.a c.find.result c.count-cells-cells.ensures c.find.ensures in
     let p = err_from_is_err_and c.from-residual.result c.from-residual.ensures.1 in
     rw (p.1, p.2) (record {
-      answer = fill-checked BitmapK (bitmap_means xs u f) (bitmap_lawful xs u f) c.args.a c.find.result finds c.args.c (Err c.in-err-check-fill.field-0.0) c.in-err-check-fill.ensures;
+      answer = fill_checked BitmapK (bitmap_means xs u f) (bitmap_lawful xs u f) c.args.a c.find.result finds c.args.c (Err c.in-err-check-fill.field-0.0) c.in-err-check-fill.ensures;
       after = unchanged (bitmap_means xs u f);
       kept = λ from h k. k;
     })

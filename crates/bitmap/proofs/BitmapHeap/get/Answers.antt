@@ -3,7 +3,7 @@ use Rattle.std.proofs.lemmas.Result.{err_from_is_err_and}
 use Rattle.heap.specs.declared.fault.Kind.TheVariants.{Bitmap as BitmapK}
 use Rattle.heap.specs.Meaning.{Block, Finds}
 use Rattle.heap.specs.Checks.{checked_get}
-use Rattle.heap.proofs.Checked.{Got, get-checked}
+use Rattle.heap.proofs.Checked.{Got, get_checked}
 use Rattle.bitmap.specs.Words.{bit_in}
 use Rattle.bitmap.specs.Cells.{Map, cells_of, bitmap_live, bitmap_means}
 use Rattle.bitmap.proofs.Laws.{bitmap_lawful, covered_region}
@@ -11,7 +11,7 @@ use Rattle.bitmap.proofs.Calls.{finds_at}
 use Rattle.bitmap.proofs.BitmapHeap.get.Goals as goal
 
 tested : (xs : List ℕ) (u f : Map) (cells a : ℕ) (found : Option Block) → cells ≡ cells_of (length xs) → Finds (bitmap_live u f cells) a found → Got BitmapK (bitmap_live u f (cells_of (length xs))) a (checked_get BitmapK found a)
-tested xs u f cells a found q e = get-checked BitmapK (bitmap_means xs u f) (bitmap_lawful xs u f) a found (finds_at xs u f cells a found q e)
+tested xs u f cells a found q e = get_checked BitmapK (bitmap_means xs u f) (bitmap_lawful xs u f) a found (finds_at xs u f cells a found q e)
 
 pub bounds-self-a : goal.bounds-self-a
 bounds-self-a c =

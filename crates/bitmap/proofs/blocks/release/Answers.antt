@@ -3,7 +3,7 @@ use Rattle.std.proofs.lemmas.Result.{err_from_is_err_and}
 use Rattle.heap.specs.declared.fault.Kind.TheVariants.{Bitmap as BitmapK}
 use Rattle.heap.specs.Meaning.{Block, Finds}
 use Rattle.heap.specs.Checks.{begun, checked_free}
-use Rattle.heap.proofs.Checked.{begun_is, free-checked}
+use Rattle.heap.proofs.Checked.{begun_is, free_checked}
 use Rattle.bitmap.specs.Words.{bit_in}
 use Rattle.bitmap.specs.Cells.{Map, bitmap_live, cells_mean, Unmarked}
 use Rattle.bitmap.proofs.Rows.{lives}
@@ -21,7 +21,7 @@ passed cells u f a l found t small finds ok begins =
     let m = cells_mean cells (λ x. 0) u f in
     let w = cells_lawful cells (λ x. 0) u f small in
     let is : bitmap_live u f cells a ≡ l = begun_is m w a found finds ∙ sym begins in
-    let was : 0 < bitmap_live u f cells a = free-checked BitmapK m w a found finds (Ok t) ok in
+    let was : 0 < bitmap_live u f cells a = free_checked BitmapK m w a found finds (Ok t) ok in
     let v = lives u f cells a was in
     let at = v.at in
     let long = v.long in
@@ -50,5 +50,5 @@ returns-in-err-check-free c =
     let u = bit_in m.used in
     let f = bit_in m.first in
     let p = err_from_is_err_and c.from-residual.result c.from-residual.ensures.1 in
-    let q = free-checked BitmapK (cells_mean c.args.cells (λ x. 0) u f) (cells_lawful c.args.cells (λ x. 0) u f c.requires) c.args.a c.find-found.result c.find-found.ensures (Err c.in-err-check-free.field-0.0) c.in-err-check-free.ensures in
+    let q = free_checked BitmapK (cells_mean c.args.cells (λ x. 0) u f) (cells_lawful c.args.cells (λ x. 0) u f c.requires) c.args.a c.find-found.result c.find-found.ensures (Err c.in-err-check-free.field-0.0) c.in-err-check-free.ensures in
     rw (p.1, p.2) (q.0, q.1, refl, refl)

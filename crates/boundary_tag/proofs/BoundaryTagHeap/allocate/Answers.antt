@@ -1,4 +1,4 @@
-use Rattle.boundary_tag.proofs.Calls.{tag-allocates, keeps-allocates}
+use Rattle.boundary_tag.proofs.Calls.{tag_allocates, keeps_allocates}
 use Rattle.boundary_tag.proofs.BoundaryTagHeap.allocate.Goals as goal
 
 pub returns : goal.returns
@@ -8,6 +8,6 @@ returns c =
     let e = c.allocate-in.ensures in
     record {
       answer = e.answer;
-      after = tag-allocates xs ys c.allocate-in.result e.after;
-      kept = λ from h k. keeps-allocates xs ys from.region.now h c.args.n c.allocate-in.result e.after k;
+      after = tag_allocates xs ys c.allocate-in.result e.after;
+      kept = λ from h k. keeps_allocates xs ys from.region.now h c.args.n c.allocate-in.result e.after k;
     }

@@ -1,4 +1,4 @@
-use Rattle.boundary_tag.proofs.Calls.{tag-fills, keeps-fills}
+use Rattle.boundary_tag.proofs.Calls.{tag_fills, keeps_fills}
 use Rattle.boundary_tag.proofs.BoundaryTagHeap.fill.Goals as goal
 
 pub returns : goal.returns
@@ -8,6 +8,6 @@ returns c =
     let e = c.fill-in.ensures in
     record {
       answer = e.answer;
-      after = tag-fills xs ys c.args.a c.args.c c.args.b c.fill-in.result e.after;
-      kept = λ from h k. keeps-fills xs ys c.args.a c.args.c c.args.b from.region.now h c.fill-in.result e.after k;
+      after = tag_fills xs ys c.args.a c.args.c c.args.b c.fill-in.result e.after;
+      kept = λ from h k. keeps_fills xs ys c.args.a c.args.c c.args.b from.region.now h c.fill-in.result e.after k;
     }

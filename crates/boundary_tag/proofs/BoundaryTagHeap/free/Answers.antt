@@ -1,4 +1,4 @@
-use Rattle.boundary_tag.proofs.Calls.{tag-frees, keeps-frees}
+use Rattle.boundary_tag.proofs.Calls.{tag_frees, keeps_frees}
 use Rattle.boundary_tag.proofs.BoundaryTagHeap.free.Goals as goal
 
 pub returns : goal.returns
@@ -8,6 +8,6 @@ returns c =
     let e = c.free-in.ensures in
     record {
       answer = e.answer;
-      after = tag-frees xs ys c.args.a c.free-in.result e.after;
-      kept = λ from h k. keeps-frees xs ys c.args.a from.region.now h c.free-in.result e.after k;
+      after = tag_frees xs ys c.args.a c.free-in.result e.after;
+      kept = λ from h k. keeps_frees xs ys c.args.a from.region.now h c.free-in.result e.after k;
     }

@@ -3,13 +3,13 @@ use Rattle.std.proofs.lemmas.Result.{err_from_is_err_and}
 use Rattle.heap.specs.declared.fault.Kind.TheVariants.{BoundaryTag as TagK}
 use Rattle.heap.specs.Meaning.{Block, Finds}
 use Rattle.heap.specs.Checks.{checked_get}
-use Rattle.heap.proofs.Checked.{Got, get-checked}
+use Rattle.heap.proofs.Checked.{Got, get_checked}
 use Rattle.boundary_tag.specs.Chunks.{live_in, chunks, tag_means}
 use Rattle.boundary_tag.proofs.Laws.{tag_lawful, covered_region}
 use Rattle.boundary_tag.proofs.BoundaryTagHeap.get.Goals as goal
 
 tested : (xs : List ℕ) (a : ℕ) (found : Option Block) → Finds (live_in (chunks xs) 0) a found → Got TagK (live_in (chunks xs) 0) a (checked_get TagK found a)
-tested xs a found f = get-checked TagK (tag_means xs) (tag_lawful xs) a found f
+tested xs a found f = get_checked TagK (tag_means xs) (tag_lawful xs) a found f
 
 pub bounds-self-a : goal.bounds-self-a
 bounds-self-a c =

@@ -1,7 +1,7 @@
 use Rattle.std.proofs.Common.{◌≡◌, length, sym, ap, ◌∙◌, arith}
 use Rattle.boundary_tag.specs.Chunks.{Chunk}
 use Rattle.boundary_tag.proofs.Laws.{fresh, span_within, span_most}
-use Rattle.boundary_tag.proofs.Carving.{fresh-tag, fresh-grant}
+use Rattle.boundary_tag.proofs.Carving.{fresh_tag, fresh_grant}
 use Rattle.boundary_tag.proofs.blocks.allocate_in.Goals as goal
 
 pub tag-length-requires : goal.tag-length-requires
@@ -21,7 +21,7 @@ grant-requires c =
     let xs = c.args.region.now in
     let b = c.in-ok-block.block in
     let f = fresh xs c.args.n b (sym c.in-ok-block.ensures) in
-    let t : c.tag-length.result.0 ≡ f.chunk.1 = ap (λ (z : Chunk). z.0) c.tag-length.ensures ∙ fresh-tag xs c.args.n b f in
+    let t : c.tag-length.result.0 ≡ f.chunk.1 = ap (λ (z : Chunk). z.0) c.tag-length.ensures ∙ fresh_tag xs c.args.n b f in
     let fits = f.fits in
     let most = f.most in
     let at = f.at in
@@ -35,5 +35,5 @@ returns c =
     let b = c.in-ok-block.block in
     let e = c.in-ok-block.ensures in
     let f = fresh xs c.args.n b (sym e) in
-    let t : c.tag-length.result.0 ≡ f.chunk.1 = ap (λ (z : Chunk). z.0) c.tag-length.ensures ∙ fresh-tag xs c.args.n b f in
-    record { answer = e; after = fresh-grant xs c.args.n b f c.grant.new.region c.tag-length.result.0 t c.grant.ensures }
+    let t : c.tag-length.result.0 ≡ f.chunk.1 = ap (λ (z : Chunk). z.0) c.tag-length.ensures ∙ fresh_tag xs c.args.n b f in
+    record { answer = e; after = fresh_grant xs c.args.n b f c.grant.new.region c.tag-length.result.0 t c.grant.ensures }

@@ -3,7 +3,7 @@ use Rattle.std.proofs.lemmas.Result.{err_from_is_err_and}
 use Rattle.heap.specs.declared.fault.Kind.TheVariants.{BoundaryTag as TagK}
 use Rattle.heap.specs.Meaning.{Covered}
 use Rattle.heap.specs.Checks.{checked_fill}
-use Rattle.heap.proofs.Checked.{fill-some, fill-covered, fill-checked}
+use Rattle.heap.proofs.Checked.{fill_some, fill_covered, fill_checked}
 use Rattle.boundary_tag.specs.Chunks.{live_in, chunks, tag_means}
 use Rattle.boundary_tag.proofs.Laws.{tag_lawful, covered_region}
 use Rattle.boundary_tag.proofs.Calls.{painted-paint}
@@ -15,8 +15,8 @@ returns c =
     let a = c.args.a in
     let n = c.args.c in
     let ok : checked_fill TagK c.find-at.result a n ≡ Ok tt = sym c.check-fill.ensures ∙ c.in-ok-check-fill.was in
-    let z : 0 < n = fill-some TagK (tag_means xs) (tag_lawful xs) a c.find-at.result c.find-at.ensures n ok in
-    let k : Covered (live_in (chunks xs) 0) a n = fill-covered TagK (tag_means xs) (tag_lawful xs) a c.find-at.result c.find-at.ensures n ok in
+    let z : 0 < n = fill_some TagK (tag_means xs) (tag_lawful xs) a c.find-at.result c.find-at.ensures n ok in
+    let k : Covered (live_in (chunks xs) 0) a n = fill_covered TagK (tag_means xs) (tag_lawful xs) a c.find-at.result c.find-at.ensures n ok in
     let p = c.paint.ensures.inside (covered_region xs a n z k) in
     record { answer = (z, ∣ k ∣₁); after = painted-paint xs c.paint.new.region a n c.args.b z k p }
 
@@ -25,6 +25,6 @@ returns-in-err-check-fill c =
     let xs = c.args.region.now in
     let p = err_from_is_err_and c.from-residual.result c.from-residual.ensures.1 in
     rw (p.1, p.2) (record {
-      answer = fill-checked TagK (tag_means xs) (tag_lawful xs) c.args.a c.find-at.result c.find-at.ensures c.args.c (Err c.in-err-check-fill.field-0.0) c.in-err-check-fill.ensures;
+      answer = fill_checked TagK (tag_means xs) (tag_lawful xs) c.args.a c.find-at.result c.find-at.ensures c.args.c (Err c.in-err-check-fill.field-0.0) c.in-err-check-fill.ensures;
       after = refl;
     })

@@ -1,5 +1,5 @@
 use Rattle.std.proofs.Common.{length, arith}
-use Rattle.boundary_tag.proofs.Carving.{carved-whole, carved-part}
+use Rattle.boundary_tag.proofs.Carving.{carved_whole, carved_part}
 use Rattle.boundary_tag.proofs.blocks.grant.Goals as goal
 
 pub returns-then-size-total : goal.returns-then-size-total
@@ -10,7 +10,7 @@ returns-then-size-total c =
     let room = c.requires.1.1.1.0 in
     let w = c.put-chunk.ensures in
     let long = w.long in
-    carved-whole p c.args.total n c.args.region.now c.put-chunk.new.region c.paint.new.region w (c.paint.ensures.inside (omega arith)) c.if-size-total.true
+    carved_whole p c.args.total n c.args.region.now c.put-chunk.new.region c.paint.new.region w (c.paint.ensures.inside (omega arith)) c.if-size-total.true
 
 pub returns : goal.returns
 returns c =
@@ -21,4 +21,4 @@ returns c =
     let w = c.put-chunk.ensures in
     let long = w.long in
     let ne = c.if-size-total.false in
-    carved-part p c.args.total n c.args.region.now c.put-chunk.new.region c.paint.new.region w (c.paint.ensures.inside (omega arith)) c.put-chunk-2.new.region (c.requires.1.1.0 (omega arith)) c.put-chunk-2.ensures
+    carved_part p c.args.total n c.args.region.now c.put-chunk.new.region c.paint.new.region w (c.paint.ensures.inside (omega arith)) c.put-chunk-2.new.region (c.requires.1.1.0 (omega arith)) c.put-chunk-2.ensures

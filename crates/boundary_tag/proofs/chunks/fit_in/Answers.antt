@@ -1,7 +1,7 @@
 use Rattle.std.proofs.Common.{◌≡◌, ◌+◌, ◌<◌, List, ◌∷◌, sym, ap, ◌∙◌, ⊎_elim}
 use Rattle.boundary_tag.specs.Chunks.{Chunk, walk, lowest_fit}
 use Rattle.boundary_tag.proofs.Walks.{walk_step, walk_end}
-use Rattle.boundary_tag.proofs.Lists.{fit-here, fit-short, fit-live}
+use Rattle.boundary_tag.proofs.Lists.{fit_here, fit_short, fit_live}
 use Rattle.boundary_tag.proofs.chunks.fit_in.Goals as goal
 
 pub returns-then-length-need : goal.returns-then-length-need
@@ -11,7 +11,7 @@ returns-then-length-need c =
     let p = c.loop-length.p in
     let h : Chunk = (c.in-Some.length, c.in-Some.state) in
     let step = ap (λ (cs : List Chunk). lowest_fit cs p c.args.need) (walk_step xs span p h (sym c.in-Some.ensures.value)) in
-    sym (step ∙ fit-here h (walk xs span _) p c.args.need c.if-state-eq-FREE.true c.if-length-need.true) ∙ c.loop-length.invariant.1
+    sym (step ∙ fit_here h (walk xs span _) p c.args.need c.if-state-eq-FREE.true c.if-length-need.true) ∙ c.loop-length.invariant.1
 
 pub loop-length-preserved : goal.loop-length-preserved
 loop-length-preserved c =
@@ -24,8 +24,8 @@ loop-length-preserved c =
     let step = ap (λ (cs : List Chunk). lowest_fit cs p n) (walk_step xs span p h (sym e.value)) in
     let past : lowest_fit (h ∷ walk xs span (p + h.0)) p n ≡ lowest_fit (walk xs span (p + h.0)) (p + h.0) n =
     ⊎_elim
-    (λ (q : (h.1 ≡ 0) × (h.0 < n)). fit-short h (walk xs span (p + h.0)) p n q.1)
-    (λ (q : h.1 ≡ 0 → ⊥). fit-live h (walk xs span (p + h.0)) p n q)
+    (λ (q : (h.1 ≡ 0) × (h.0 < n)). fit_short h (walk xs span (p + h.0)) p n q.1)
+    (λ (q : h.1 ≡ 0 → ⊥). fit_live h (walk xs span (p + h.0)) p n q)
     c.else-state-eq-FREE.either in
     (e.inside.fits, sym (step ∙ past) ∙ c.loop-length.invariant.1)
 

@@ -1,6 +1,6 @@
 use Rattle.std.proofs.Common.{sym}
 use Rattle.bump.proofs.Laws.{fresh}
-use Rattle.bump.proofs.Calls.{bump-granted, keeps-granted}
+use Rattle.bump.proofs.Calls.{bump-granted, keeps_granted}
 use Rattle.bump.proofs.BumpHeap.allocate.Goals as goal
 
 pub returns : goal.returns
@@ -14,5 +14,5 @@ returns c =
     record {
       answer = e.answer;
       after = bump-granted xs ys cursor c.args.n b f e.after;
-      kept = λ from h k. keeps-granted xs ys cursor c.args.n b f e.after from.region.now from.cursor h k;
+      kept = λ from h k. keeps_granted xs ys cursor c.args.n b f e.after from.region.now from.cursor h k;
     }

@@ -1,4 +1,4 @@
-use Rattle.bump.proofs.Calls.{bump-fills, keeps-fills}
+use Rattle.bump.proofs.Calls.{bump_fills, keeps_fills}
 use Rattle.bump.proofs.BumpHeap.fill.Goals as goal
 
 pub returns : goal.returns
@@ -9,6 +9,6 @@ returns c =
     let e = c.fill-in.ensures in
     record {
       answer = e.answer;
-      after = bump-fills xs ys cursor c.args.a c.args.c c.args.b c.fill-in.result e.after;
-      kept = λ from h k. keeps-fills xs ys cursor c.args.a c.args.c c.args.b from.region.now from.cursor h c.fill-in.result e.after k;
+      after = bump_fills xs ys cursor c.args.a c.args.c c.args.b c.fill-in.result e.after;
+      kept = λ from h k. keeps_fills xs ys cursor c.args.a c.args.c c.args.b from.region.now from.cursor h c.fill-in.result e.after k;
     }

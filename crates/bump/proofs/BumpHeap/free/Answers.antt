@@ -1,4 +1,4 @@
-use Rattle.bump.proofs.Calls.{bump-freed, keeps-freed}
+use Rattle.bump.proofs.Calls.{bump_freed, keeps_freed}
 use Rattle.bump.proofs.BumpHeap.free.Goals as goal
 
 pub returns : goal.returns
@@ -10,6 +10,6 @@ returns c =
     let next = c.in-ok-self.field-0 in
     record {
       answer = e.was;
-      after = bump-freed xs ys cursor next c.args.a e;
-      kept = λ from h k. keeps-freed xs ys cursor next c.args.a e from.region.now from.cursor h k;
+      after = bump_freed xs ys cursor next c.args.a e;
+      kept = λ from h k. keeps_freed xs ys cursor next c.args.a e from.region.now from.cursor h k;
     }

@@ -3,13 +3,13 @@ use Rattle.std.proofs.lemmas.Result.{err_from_is_err_and}
 use Rattle.heap.specs.declared.fault.Kind.TheVariants.{Bump as BumpK}
 use Rattle.heap.specs.Meaning.{Block, Finds}
 use Rattle.heap.specs.Checks.{checked_get}
-use Rattle.heap.proofs.Checked.{Got, get-checked}
+use Rattle.heap.proofs.Checked.{Got, get_checked}
 use Rattle.bump.specs.Table.{live_in, table, bump_means}
 use Rattle.bump.proofs.Laws.{bump_lawful, covered_region}
 use Rattle.bump.proofs.BumpHeap.get.Goals as goal
 
 tested : (xs : List ℕ) (cursor a : ℕ) (found : Option Block) → Finds (live_in (table xs cursor) 0) a found → Got BumpK (live_in (table xs cursor) 0) a (checked_get BumpK found a)
-tested xs cursor a found f = get-checked BumpK (bump_means xs cursor) (bump_lawful xs cursor) a found f
+tested xs cursor a found f = get_checked BumpK (bump_means xs cursor) (bump_lawful xs cursor) a found f
 
 pub bounds-self-a : goal.bounds-self-a
 bounds-self-a c =

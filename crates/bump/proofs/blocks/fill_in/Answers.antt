@@ -3,7 +3,7 @@ use Rattle.std.proofs.lemmas.Result.{err_from_is_err_and}
 use Rattle.heap.specs.declared.fault.Kind.TheVariants.{Bump as BumpK}
 use Rattle.heap.specs.Meaning.{Covered}
 use Rattle.heap.specs.Checks.{checked_fill}
-use Rattle.heap.proofs.Checked.{fill-some, fill-covered, fill-checked}
+use Rattle.heap.proofs.Checked.{fill_some, fill_covered, fill_checked}
 use Rattle.bump.specs.Table.{live_in, table, bump_means}
 use Rattle.bump.proofs.Laws.{bump_lawful, covered_region}
 use Rattle.bump.proofs.Calls.{painted-paint}
@@ -16,8 +16,8 @@ returns c =
     let a = c.args.a in
     let n = c.args.c in
     let ok : checked_fill BumpK c.find-at.result a n ≡ Ok tt = sym c.check-fill.ensures ∙ c.in-ok-check-fill.was in
-    let z : 0 < n = fill-some BumpK (bump_means xs cursor) (bump_lawful xs cursor) a c.find-at.result c.find-at.ensures n ok in
-    let k : Covered (live_in (table xs cursor) 0) a n = fill-covered BumpK (bump_means xs cursor) (bump_lawful xs cursor) a c.find-at.result c.find-at.ensures n ok in
+    let z : 0 < n = fill_some BumpK (bump_means xs cursor) (bump_lawful xs cursor) a c.find-at.result c.find-at.ensures n ok in
+    let k : Covered (live_in (table xs cursor) 0) a n = fill_covered BumpK (bump_means xs cursor) (bump_lawful xs cursor) a c.find-at.result c.find-at.ensures n ok in
     let p = c.paint.ensures.inside (covered_region xs cursor a n z k) in
     record { answer = (z, ∣ k ∣₁); after = painted-paint xs c.paint.new.region cursor a n c.args.b z k p }
 
@@ -27,6 +27,6 @@ returns-in-err-check-fill c =
     let cursor = c.args.cursor in
     let p = err_from_is_err_and c.from-residual.result c.from-residual.ensures.1 in
     rw (p.1, p.2) (record {
-      answer = fill-checked BumpK (bump_means xs cursor) (bump_lawful xs cursor) c.args.a c.find-at.result c.find-at.ensures c.args.c (Err c.in-err-check-fill.field-0.0) c.in-err-check-fill.ensures;
+      answer = fill_checked BumpK (bump_means xs cursor) (bump_lawful xs cursor) c.args.a c.find-at.result c.find-at.ensures c.args.c (Err c.in-err-check-fill.field-0.0) c.in-err-check-fill.ensures;
       after = refl;
     })

@@ -4,16 +4,16 @@ use Rattle.heap.specs.declared.fault.Fault.{Fault}
 use Rattle.heap.specs.declared.fault.Kind.TheVariants.{Bump as BumpK}
 use Rattle.heap.specs.Meaning.{Block, Finds}
 use Rattle.heap.specs.Checks.{checked_free}
-use Rattle.heap.proofs.Checked.{free-checked}
+use Rattle.heap.proofs.Checked.{free_checked}
 use Rattle.region.specs.Bytes.{put_word}
 use Rattle.bump.specs.Table.{live_in, table, bump_means, Struck}
 use Rattle.bump.proofs.Headings.{struck}
 use Rattle.bump.proofs.Laws.{bump_lawful, bump_reach}
-use Rattle.bump.proofs.Calls.{strike-on, strike-over}
+use Rattle.bump.proofs.Calls.{strike_on, strike_over}
 use Rattle.bump.proofs.blocks.free_in.Goals as goal
 
 was : (xs : List ℕ) (cursor a : ℕ) (found : Option Block) (r : Result (Unit {0}) Fault) → Finds (live_in (table xs cursor) 0) a found → r ≡ checked_free BumpK found a → r ≡ Ok tt → 0 < live_in (table xs cursor) 0 a
-was xs cursor a found r f e ok = free-checked BumpK (bump_means xs cursor) (bump_lawful xs cursor) a found f (Ok tt) (sym ok ∙ e)
+was xs cursor a found r f e ok = free_checked BumpK (bump_means xs cursor) (bump_lawful xs cursor) a found f (Ok tt) (sym ok ∙ e)
 
 ends : (xs ys : List ℕ) (cursor a : ℕ) → 0 < live_in (table xs cursor) 0 a → (a - 4 + 4 ≤ length xs → ys ≡ put_word xs (a - 4) 2) → Struck a xs ys
 ends xs ys cursor a h e =
@@ -31,19 +31,19 @@ returns-then-any-live c =
     let xs = c.args.region.now in
     let ys = c.put-word.new.region in
     let w = was xs c.args.cursor c.args.a c.find-at.result c.check-free.result c.find-at.ensures c.check-free.ensures c.in-ok-check-free.was in
-    strike-on xs ys c.args.cursor c.args.a w (ends xs ys c.args.cursor c.args.a w c.put-word.ensures.inside) c.bound.result c.bound.ensures c.if-any-live.ensures
+    strike_on xs ys c.args.cursor c.args.a w (ends xs ys c.args.cursor c.args.a w c.put-word.ensures.inside) c.bound.result c.bound.ensures c.if-any-live.ensures
 
 pub returns-else-any-live : goal.returns-else-any-live
 returns-else-any-live c =
     let xs = c.args.region.now in
     let ys = c.put-word.new.region in
     let w = was xs c.args.cursor c.args.a c.find-at.result c.check-free.result c.find-at.ensures c.check-free.ensures c.in-ok-check-free.was in
-    strike-over xs ys c.args.cursor c.args.a w (ends xs ys c.args.cursor c.args.a w c.put-word.ensures.inside) c.bound.result c.bound.ensures c.if-any-live.ensures
+    strike_over xs ys c.args.cursor c.args.a w (ends xs ys c.args.cursor c.args.a w c.put-word.ensures.inside) c.bound.result c.bound.ensures c.if-any-live.ensures
 
 pub returns-in-err-check-free : goal.returns-in-err-check-free
 returns-in-err-check-free c =
     let xs = c.args.region.now in
     let cursor = c.args.cursor in
     let p = err_from_is_err_and c.from-residual.result c.from-residual.ensures.1 in
-    let q = free-checked BumpK (bump_means xs cursor) (bump_lawful xs cursor) c.args.a c.find-at.result c.find-at.ensures (Err c.in-err-check-free.field-0.0) c.in-err-check-free.ensures in
+    let q = free_checked BumpK (bump_means xs cursor) (bump_lawful xs cursor) c.args.a c.find-at.result c.find-at.ensures (Err c.in-err-check-free.field-0.0) c.in-err-check-free.ensures in
     rw (p.1, p.2) (q.0, q.1, refl)

@@ -5,13 +5,13 @@ use Rattle.trace.specs.declared.frame.Action.{Action}
 use Rattle.trace.specs.Frames.{frames_of}
 use Rattle.trace.specs.Recordings.{actions_in}
 use Rattle.player.specs.Replays.{Going, Replayed}
-use Rattle.player.proofs.Underway.{actions_next, going-none, replayed}
+use Rattle.player.proofs.Underway.{actions_next, going_none, replayed}
 use Rattle.player.proofs.player.play.Goals as goal
 
 pub loop-frame-init : goal.loop-frame-init
 loop-frame-init g c =
     let e = c.new-player.ensures in
-    ([], [], refl, (let few = c.requires in omega arith), going-none g.H.Meant.means g.H.Meant.keeps c.args.heap.now c.new-player.result.slots.table c.new-player.result.tally e.slots e.tally)
+    ([], [], refl, (let few = c.requires in omega arith), going_none g.H.Meant.means g.H.Meant.keeps c.args.heap.now c.new-player.result.slots.table c.new-player.result.tally e.slots e.tally)
 
 pub loop-frame-preserved : goal.loop-frame-preserved
 loop-frame-preserved g c =

@@ -3,7 +3,7 @@ use Rattle.std.proofs.Common.{ℕ, ◌≤◌, List, length, take, ◌∙◌, sub
 use Rattle.std.proofs.lemmas.List.{take_all, length-take-le}
 use Rattle.report.specs.Lines.{kind_lines}
 use Rattle.report.proofs.Laying.{Laid, laid_none}
-use Rattle.report.proofs.Lining.{kind-passed, kind-laid, length_kinds}
+use Rattle.report.proofs.Lining.{kind_passed, kind_laid, length_kinds}
 use Rattle.report.proofs.lines.put_kinds.Goals as goal
 use Rattle.report.proofs.lines.put_kinds.Goals.{then-count-gt0, else-count-gt0}
 
@@ -19,8 +19,8 @@ put-line-next-requires c =
 pub loop-kind-preserved : goal.loop-kind-preserved
 loop-kind-preserved c =
     let room : c.args.at ≤ length c.args.out.now = let p = c.requires in omega arith in
-    let passed = kind-passed c.args.out.now c.loop-kind.out c.args.at c.loop-kind.next c.args.kinds.now c.loop-kind.kind c.loop-kind-test.true room c.loop-kind.invariant in
-    let laid = kind-laid c.args.out.now c.loop-kind.out c.args.at c.loop-kind.next c.args.kinds.now c.loop-kind.kind c.loop-kind-test.true room c.loop-kind.invariant in
+    let passed = kind_passed c.args.out.now c.loop-kind.out c.args.at c.loop-kind.next c.args.kinds.now c.loop-kind.kind c.loop-kind-test.true room c.loop-kind.invariant in
+    let laid = kind_laid c.args.out.now c.loop-kind.out c.args.at c.loop-kind.next c.args.kinds.now c.loop-kind.kind c.loop-kind-test.true room c.loop-kind.invariant in
     elim c.if-count-gt0.branch [
       | then-count-gt0 w ↦ let e = w.put-line-next.ensures in laid c.if-count-gt0.out c.if-count-gt0.next w.if-count-gt0.true (w.next-is ∙ e.end, w.out-is ∙ e.text)
       | else-count-gt0 w ↦ let p = passed w.if-count-gt0.false in (w.next-is ∙ p.0, w.out-is ∙ p.1)

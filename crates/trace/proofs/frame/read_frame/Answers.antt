@@ -1,5 +1,5 @@
 use Rattle.std.proofs.Common.{◌≤◌, length, arith, ltb-false}
-use Rattle.trace.proofs.Reading.{read-frames, read-bytes}
+use Rattle.trace.proofs.Reading.{read_frames, read_bytes}
 use Rattle.trace.proofs.frame.read_frame.Goals as goal
 
 pub returns-in-len6-up : goal.returns-in-len6-up
@@ -7,6 +7,6 @@ returns-in-len6-up c =
     let xs = c.args.trace.now in
     let some : 6 ≤ length xs = omega (arith, ltb-false) in
     record {
-      frames = read-frames xs c.from-be-bytes-number.result some c.from-be-bytes-number.ensures;
-      bytes = read-bytes xs c.from-be-bytes-number.result some c.from-be-bytes-number.ensures (λ i. let f = c.type-inv.trace i in omega arith);
+      frames = read_frames xs c.from-be-bytes-number.result some c.from-be-bytes-number.ensures;
+      bytes = read_bytes xs c.from-be-bytes-number.result some c.from-be-bytes-number.ensures (λ i. let f = c.type-inv.trace i in omega arith);
     }

@@ -1,7 +1,7 @@
 use Rattle.std.proofs.Common.{◌≡◌, ℕ, ◌+◌, ◌*◌, ◌<◌, ◌≤◌, Bool, true, false, cond, eqb, List, length, Some, None, Option, sym, refl, ap, ◌∙◌, arith, length-set}
 use Rattle.std.proofs.lemmas.Bool.{eq-eqb, ne_eqb, cond-true, cond-false}
 use Rattle.trace.specs.Digits.{bytes_in}
-use Rattle.trace.proofs.Spelling.{spelled-more, misspelled, spelled, behind_none}
+use Rattle.trace.proofs.Spelling.{spelled_more, misspelled, spelled, behind_none}
 use Rattle.trace.proofs.hex.read_digits.Goals as goal
 
 pub returns-then-text-ne12 : goal.returns-then-text-ne12
@@ -24,7 +24,7 @@ loop-i-preserved c =
     let twelve = c.if-text-ne12.false in
     let few = c.loop-i-test.true in
     let six = c.loop-i.invariant.1 in
-    (spelled-more text c.loop-i.bytes c.loop-i.i (bytes_in text) (omega arith) c.loop-i.invariant.0 c.in-ok-bytes.field-0 (omega arith) c.in-ok-bytes.ensures, length-set c.loop-i.bytes c.loop-i.i c.in-ok-bytes.field-0 ∙ six)
+    (spelled_more text c.loop-i.bytes c.loop-i.i (bytes_in text) (omega arith) c.loop-i.invariant.0 c.in-ok-bytes.field-0 (omega arith) c.in-ok-bytes.ensures, length-set c.loop-i.bytes c.loop-i.i c.in-ok-bytes.field-0 ∙ six)
 
 pub returns : goal.returns
 returns c =

@@ -1,14 +1,14 @@
 use Rattle.std.proofs.Common.{◌≡◌, ◌<◌, ◌≤◌, false, length, Ok, Err, arith}
 use Rattle.heap.specs.declared.fault.Kind.TheVariants.{FreeList as FreeListK}
 use Rattle.heap.proofs.Lawful.{unchanged}
-use Rattle.heap.proofs.Checked.{free-checked}
-use Rattle.heap.proofs.Offers.{own-free}
+use Rattle.heap.proofs.Checked.{free_checked}
+use Rattle.heap.proofs.Offers.{own_free}
 use Rattle.free_list.specs.Holdings.{among}
 use Rattle.free_list.specs.FreeLists.{unheld, free_listed}
 use Rattle.free_list.specs.FreeList.{listed}
-use Rattle.free_list.specs.Unheld.{unheld-not, unheld-le, some-unheld}
-use Rattle.free_list.specs.FreeListed.{held_freed, below-frees, serves_next, serves_none, free_listed_lawful}
-use Rattle.free_list.specs.Keeping.{held_keeps, below-free-keeps}
+use Rattle.free_list.specs.Unheld.{unheld_not, unheld_le, some_unheld}
+use Rattle.free_list.specs.FreeListed.{held_freed, below_frees, serves_next, serves_none, free_listed_lawful}
+use Rattle.free_list.specs.Keeping.{held_keeps, below_free_keeps}
 use Rattle.std.proofs.lemmas.Result.{err_from_is_err_and}
 use Rattle.free_list.proofs.free_list.FreeList.give_back.Goals as goal
 
@@ -21,7 +21,7 @@ returns-in-err-check-free g c =
     let R = g.R.Rounding.rounds in
     let a = c.args.a in
     let p = err_from_is_err_and c.from-residual.result c.from-residual.ensures.1 in
-    let t = free-checked FreeListK (free_listed L R held m) (free_listed_lawful L R held m g.met.R.Rounding.lawful (g.H.Meant.lawful s.below)) a c.covering.result c.covering.ensures (Err c.in-err-check-free.field-0.0) c.in-err-check-free.ensures in
+    let t = free_checked FreeListK (free_listed L R held m) (free_listed_lawful L R held m g.met.R.Rounding.lawful (g.H.Meant.lawful s.below)) a c.covering.result c.covering.ensures (Err c.in-err-check-free.field-0.0) c.in-err-check-free.ensures in
     rw (p.1, p.2) (record {
       answer = t;
       after = unchanged (free_listed L R held m);
@@ -38,9 +38,9 @@ returns-then-len-lt-MOST g c =
     let L = g.R.Rounding.largest in
     let R = g.R.Rounding.rounds in
     let a = c.args.a in
-    let live : 0 < unheld held m.live a = free-checked FreeListK (free_listed L R held m) (free_listed_lawful L R held m g.met.R.Rounding.lawful (g.H.Meant.lawful s.below)) a c.covering.result c.covering.ensures (Ok tt) c.in-ok-check-free.ensures in
-    let fresh : among a held ≡ false = some-unheld held m.live a live in
-    let some : 0 < m.live a = omega (arith, unheld-le held m.live a) in
+    let live : 0 < unheld held m.live a = free_checked FreeListK (free_listed L R held m) (free_listed_lawful L R held m g.met.R.Rounding.lawful (g.H.Meant.lawful s.below)) a c.covering.result c.covering.ensures (Ok tt) c.in-ok-check-free.ensures in
+    let fresh : among a held ≡ false = some_unheld held m.live a live in
+    let some : 0 < m.live a = omega (arith, unheld_le held m.live a) in
     let few : length held < 16 = omega (arith, c.len.ensures, c.if-len-lt-MOST.true) in
     record {
       answer = live;
@@ -60,12 +60,12 @@ returns g c =
     let a = c.args.a in
     let r = c.free.result in
     let e = c.free.ensures in
-    let live : 0 < unheld held m.live a = free-checked FreeListK (free_listed L R held m) (free_listed_lawful L R held m g.met.R.Rounding.lawful (g.H.Meant.lawful s.below)) a c.covering.result c.covering.ensures (Ok tt) c.in-ok-check-free.ensures in
-    let fresh : among a held ≡ false = some-unheld held m.live a live in
+    let live : 0 < unheld held m.live a = free_checked FreeListK (free_listed L R held m) (free_listed_lawful L R held m g.met.R.Rounding.lawful (g.H.Meant.lawful s.below)) a c.covering.result c.covering.ensures (Ok tt) c.in-ok-check-free.ensures in
+    let fresh : among a held ≡ false = some_unheld held m.live a live in
     let full : 16 ≤ length held = omega (arith, c.len.ensures, c.if-len-lt-MOST.false) in
     record {
-      answer = rw c.make-own.ensures (own-free FreeListK m.kind (unheld held m.live) m.live a a r (unheld-not held m.live a fresh) e.answer);
-      after = rw c.make-own.ensures (below-frees L R held m m' a r e.after);
-      kept = λ from h k. rw c.make-own.ensures (below-free-keeps R (listed from.held) (g.H.Meant.means from.below).live held m m' (λ q. g.H.Meant.keeps from.below q s.below) (λ q. g.H.Meant.keeps from.below q c.free.new.self) h k a r full fresh e.after (e.kept from.below));
+      answer = rw c.make-own.ensures (own_free FreeListK m.kind (unheld held m.live) m.live a a r (unheld_not held m.live a fresh) e.answer);
+      after = rw c.make-own.ensures (below_frees L R held m m' a r e.after);
+      kept = λ from h k. rw c.make-own.ensures (below_free_keeps R (listed from.held) (g.H.Meant.means from.below).live held m m' (λ q. g.H.Meant.keeps from.below q s.below) (λ q. g.H.Meant.keeps from.below q c.free.new.self) h k a r full fresh e.after (e.kept from.below));
       serves = λ from h k l. absurd (let z : ⊥ = omega arith in z);
     }

@@ -6,7 +6,7 @@ use Rattle.free_list.specs.declared.held.Held.{Held}
 use Rattle.free_list.specs.FreeLists.{Released, freed_in_turn}
 use Rattle.free_list.specs.FreeList.{listed}
 use Rattle.free_list.specs.Addresses.{fresh_in, among_in}
-use Rattle.free_list.specs.Unheld.{unheld-not}
+use Rattle.free_list.specs.Unheld.{unheld_not}
 use Rattle.free_list.proofs.Releasing.{released_more, surely_freed, in_turn_push}
 use Rattle.free_list.proofs.free_list.FreeList.release.Goals as goal
 
@@ -28,7 +28,7 @@ loop-i-preserved g c =
       inv.0,
       subst (λ (q : List ℕ). Released q m m'') (sym more) (released_more (take i held) a m m' m'' c.free.result inv.1 may freed),
       λ from h l k.
-          let fresh = unheld-not (take i held) m.live a (fresh_in held i s.held.apart less) in
+          let fresh = unheld_not (take i held) m.live a (fresh_in held i s.held.apart less) in
           let some : 0 < m'.live a = omega (arith, inv.1.live a, fresh, l a (among_in held i less)) in
           let sent = freed_in_turn (take i held) h in
           let K : History → Type 0 = λ q. g.H.Meant.keeps from q c.free.new.self in

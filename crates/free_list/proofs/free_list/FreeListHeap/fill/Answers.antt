@@ -2,13 +2,13 @@ use Rattle.std.proofs.Common.{◌≡◌, Ok, Err, sym}
 use Rattle.std.proofs.lemmas.Result.{err_from_is_err_and}
 use Rattle.heap.specs.declared.fault.Kind.TheVariants.{FreeList as FreeListK}
 use Rattle.heap.proofs.Lawful.{unchanged}
-use Rattle.heap.proofs.Checked.{fill-covered, fill-checked}
+use Rattle.heap.proofs.Checked.{fill_covered, fill_checked}
 use Rattle.heap.proofs.Offers.{own-fill}
 use Rattle.free_list.specs.FreeLists.{unheld, free_listed}
 use Rattle.free_list.specs.FreeList.{listed}
-use Rattle.free_list.specs.Unheld.{covered-below}
-use Rattle.free_list.specs.FreeListed.{below-fills, free_listed_lawful}
-use Rattle.free_list.specs.Keeping.{below-fill-keeps}
+use Rattle.free_list.specs.Unheld.{covered_below}
+use Rattle.free_list.specs.FreeListed.{below_fills, free_listed_lawful}
+use Rattle.free_list.specs.Keeping.{below_fill_keeps}
 use Rattle.free_list.proofs.free_list.FreeListHeap.fill.Goals as goal
 
 pub returns : goal.returns
@@ -24,11 +24,11 @@ returns g c =
     let r = c.fill.result in
     let e = c.fill.ensures in
     let v = free_listed_lawful L R held m g.met.R.Rounding.lawful (g.H.Meant.lawful s.below) in
-    let i = fill-covered FreeListK (free_listed L R held m) v a c.covering.result c.covering.ensures n (sym c.in-ok-check-fill.ensures) in
+    let i = fill_covered FreeListK (free_listed L R held m) v a c.covering.result c.covering.ensures n (sym c.in-ok-check-fill.ensures) in
     record {
-      answer = rw c.make-own.ensures (own-fill FreeListK m.kind (unheld held m.live) m.live a a n (covered-below held m.live a n) (λ _. i) r e.answer);
-      after = rw c.make-own.ensures (below-fills L R held m m' a n c.args.b r e.after);
-      kept = λ from h k. rw c.make-own.ensures (below-fill-keeps R (listed from.held) (g.H.Meant.means from.below).live held m m' (λ q. g.H.Meant.keeps from.below q s.below) (λ q. g.H.Meant.keeps from.below q c.fill.new.self) h k a n c.args.b r e.after (e.kept from.below));
+      answer = rw c.make-own.ensures (own-fill FreeListK m.kind (unheld held m.live) m.live a a n (covered_below held m.live a n) (λ _. i) r e.answer);
+      after = rw c.make-own.ensures (below_fills L R held m m' a n c.args.b r e.after);
+      kept = λ from h k. rw c.make-own.ensures (below_fill_keeps R (listed from.held) (g.H.Meant.means from.below).live held m m' (λ q. g.H.Meant.keeps from.below q s.below) (λ q. g.H.Meant.keeps from.below q c.fill.new.self) h k a n c.args.b r e.after (e.kept from.below));
     }
 
 pub returns-in-err-check-fill : goal.returns-in-err-check-fill
@@ -40,7 +40,7 @@ returns-in-err-check-fill g c =
     let R = g.R.Rounding.rounds in
     let p = err_from_is_err_and c.from-residual.result c.from-residual.ensures.1 in
     rw (p.1, p.2) (record {
-      answer = fill-checked FreeListK (free_listed L R held m) (free_listed_lawful L R held m g.met.R.Rounding.lawful (g.H.Meant.lawful s.below)) c.args.a c.covering.result c.covering.ensures c.args.c (Err c.in-err-check-fill.field-0.0) c.in-err-check-fill.ensures;
+      answer = fill_checked FreeListK (free_listed L R held m) (free_listed_lawful L R held m g.met.R.Rounding.lawful (g.H.Meant.lawful s.below)) c.args.a c.covering.result c.covering.ensures c.args.c (Err c.in-err-check-fill.field-0.0) c.in-err-check-fill.ensures;
       after = unchanged (free_listed L R held m);
       kept = λ from h k. k;
     })

@@ -2,7 +2,7 @@ use Rattle.std.proofs.Common.{◌≡◌, ℕ, ◌+◌, ◌-◌, ◌≤◌, ◌�
 use Rattle.heap.specs.Meaning.{Block}
 use Rattle.heap.specs.Histories.{History, granted}
 use Rattle.layers.specs.Affixes.{affix_offer, sent_affixed}
-use Rattle.layers.specs.Affixed.{asked, marked-granted, marked-whole, marked-offer, marked-sent}
+use Rattle.layers.specs.Affixed.{asked, marked_granted, marked_whole, marked_offer, marked_sent}
 use Rattle.layers.proofs.affix.AffixHeap.allocate.Goals as goal
 
 pub overflow-add-start : goal.overflow-add-start
@@ -34,12 +34,12 @@ returns g c =
     let r₁ = c.fill.result in
     let r₂ = c.fill-2.result in
     record {
-      answer = sym (ap (affix_offer m) (sym d.same) ∙ marked-offer m m₁ m₂ m₃ n b r r₁ r₂ w d.some e.answer d.is e.after e₁.answer e₁.after e₂.answer e₂.after d.most);
-      after = marked-granted m m₁ m₂ m₃ n b r r₁ r₂ w d.some e.answer d.is e.after e₁.answer e₁.after e₂.answer e₂.after;
+      answer = sym (ap (affix_offer m) (sym d.same) ∙ marked_offer m m₁ m₂ m₃ n b r r₁ r₂ w d.some e.answer d.is e.after e₁.answer e₁.after e₂.answer e₂.after d.most);
+      after = marked_granted m m₁ m₂ m₃ n b r r₁ r₂ w d.some e.answer d.is e.after e₁.answer e₁.after e₂.answer e₂.after;
       kept = λ from h k. record {
-        whole = λ q. marked-whole m m₁ m₂ m₃ n b r r₁ r₂ w d.some e.answer d.is e.after e₁.answer e₁.after e₂.answer e₂.after (k.whole q);
+        whole = λ q. marked_whole m m₁ m₂ m₃ n b r r₁ r₂ w d.some e.answer d.is e.after e₁.answer e₁.after e₂.answer e₂.after (k.whole q);
         below = subst (λ (q : History). g.H.Meant.keeps from.below q c.fill-2.new.self)
-            (marked-sent m m₁ m₂ m₃ n b r r₁ r₂ w d.some e.answer d.is e.after e₁.answer e₁.after e₂.answer e₂.after h ∙ ap (λ (z : ℕ). sent_affixed (granted z (b.0 + 8) (b.1 - 16) ∷ h)) d.same)
+            (marked_sent m m₁ m₂ m₃ n b r r₁ r₂ w d.some e.answer d.is e.after e₁.answer e₁.after e₂.answer e₂.after h ∙ ap (λ (z : ℕ). sent_affixed (granted z (b.0 + 8) (b.1 - 16) ∷ h)) d.same)
             (e₂.kept from.below _ (e₁.kept from.below _ (e.kept from.below _ k.below)));
       };
     }

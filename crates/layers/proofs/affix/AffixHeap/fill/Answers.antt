@@ -3,7 +3,7 @@ use Rattle.heap.specs.declared.fault.Kind.TheVariants.{Affix as AffixK}
 use Rattle.heap.specs.Meaning.{Covered}
 use Rattle.heap.specs.Checks.{checked_fill}
 use Rattle.heap.proofs.Lawful.{unchanged}
-use Rattle.heap.proofs.Checked.{fill-some, fill-covered, fill-checked}
+use Rattle.heap.proofs.Checked.{fill_some, fill_covered, fill_checked}
 use Rattle.heap.proofs.Offers.{own-fill, own_after_fill}
 use Rattle.layers.specs.Affixes.{affix_live, affixed}
 use Rattle.layers.specs.Affixed.{covered_outer, affixed_lawful, affixed_fills, whole_fills, sent_fill}
@@ -19,8 +19,8 @@ returns g c =
     let n = c.args.c in
     let v = affixed_lawful m w in
     let ok : checked_fill AffixK c.inner.result a n ≡ Ok tt = sym c.check-fill.ensures ∙ c.in-ok-check-fill.was in
-    let some : 0 < n = fill-some AffixK (affixed m) v a c.inner.result c.inner.ensures n ok in
-    let i : Covered (affix_live m.live) a n = fill-covered AffixK (affixed m) v a c.inner.result c.inner.ensures n ok in
+    let some : 0 < n = fill_some AffixK (affixed m) v a c.inner.result c.inner.ensures n ok in
+    let i : Covered (affix_live m.live) a n = fill_covered AffixK (affixed m) v a c.inner.result c.inner.ensures n ok in
     let e = c.fill.ensures in
     let r = c.fill.result in
     record {
@@ -39,7 +39,7 @@ returns-in-err-check-fill g c =
     let p = err_from_is_err_and c.from-residual.result c.from-residual.ensures.1 in
     let f = c.in-err-check-fill.field-0.0 in
     rw (p.1, p.2) (record {
-      answer = fill-checked AffixK (affixed m) (affixed_lawful m (g.H.Meant.lawful s)) c.args.a c.inner.result c.inner.ensures c.args.c (Err f) (sym c.in-err-check-fill.was ∙ c.check-fill.ensures);
+      answer = fill_checked AffixK (affixed m) (affixed_lawful m (g.H.Meant.lawful s)) c.args.a c.inner.result c.inner.ensures c.args.c (Err f) (sym c.in-err-check-fill.was ∙ c.check-fill.ensures);
       after = unchanged (affixed m);
       kept = λ from h k. k;
     })

@@ -1,7 +1,7 @@
 use Rattle.std.proofs.Common.{◌≡◌, ℕ, ◌<◌, Ok, Err, sym, ◌∙◌}
 use Rattle.heap.specs.declared.fault.Kind.TheVariants.{Affix as AffixK}
 use Rattle.heap.proofs.Lawful.{unchanged}
-use Rattle.heap.proofs.Checked.{free-checked}
+use Rattle.heap.proofs.Checked.{free_checked}
 use Rattle.heap.proofs.Offers.{own_after_free}
 use Rattle.layers.specs.Affixes.{affix_live, affixed}
 use Rattle.layers.specs.Affixed.{affixed_lawful, affixed_frees, whole_frees, sent_free}
@@ -15,7 +15,7 @@ returns g c =
     let a = c.args.a in
     let e = c.free.ensures in
     let r = c.free.result in
-    let h : 0 < affix_live m.live a = free-checked AffixK (affixed m) (affixed_lawful m (g.H.Meant.lawful s)) a c.inner.result c.inner.ensures (Ok tt) (sym c.in-ok-check-free.was ∙ c.check-free.ensures) in
+    let h : 0 < affix_live m.live a = free_checked AffixK (affixed m) (affixed_lawful m (g.H.Meant.lawful s)) a c.inner.result c.inner.ensures (Ok tt) (sym c.in-ok-check-free.was ∙ c.check-free.ensures) in
     let both = affixed_frees m.kind m _ a r h e.answer e.after in
     record {
       answer = rw c.make-own.ensures both.0;
@@ -33,7 +33,7 @@ returns-in-err-check-free g c =
     let p = err_from_is_err_and c.from-residual.result c.from-residual.ensures.1 in
     let f = c.in-err-check-free.field-0.0 in
     rw (p.1, p.2) (record {
-      answer = free-checked AffixK (affixed m) (affixed_lawful m (g.H.Meant.lawful s)) c.args.a c.inner.result c.inner.ensures (Err f) (sym c.in-err-check-free.was ∙ c.check-free.ensures);
+      answer = free_checked AffixK (affixed m) (affixed_lawful m (g.H.Meant.lawful s)) c.args.a c.inner.result c.inner.ensures (Err f) (sym c.in-err-check-free.was ∙ c.check-free.ensures);
       after = unchanged (affixed m);
       kept = λ from h k. k;
     })

@@ -1,5 +1,5 @@
 use Rattle.std.proofs.Common.{◌∙◌}
-use Rattle.layers.specs.Rationed.{rationed-allocates, paid-granted}
+use Rattle.layers.specs.Rationed.{rationed_allocates, paid_granted}
 use Rattle.layers.proofs.quota.QuotaHeap.allocate.Goals as goal
 
 pub returns : goal.returns
@@ -8,10 +8,10 @@ returns g c =
     let w = g.H.Meant.lawful c.args.self.now.below in
     record {
       answer = e.answer;
-      after = rationed-allocates _ _ _ _ _ _ e.limit c.charge.result e.account e.after;
+      after = rationed_allocates _ _ _ _ _ _ e.limit c.charge.result e.account e.after;
       kept = λ from h k. record {
         limit = e.limit ∙ k.limit;
-        paid = λ p. paid-granted _ _ _ _ _ _ e.limit c.args.n c.charge.result w e.answer e.account e.after (k.paid p);
+        paid = λ p. paid_granted _ _ _ _ _ _ e.limit c.args.n c.charge.result w e.answer e.account e.after (k.paid p);
         below = e.kept from.below h k.below;
       };
     }
