@@ -8,9 +8,9 @@ use Rattle.heap.specs.Meaning.{Block, In, Covered, Granted, Freed, Filled, Fills
 use Rattle.heap.specs.Histories.{History, granted, freed, filled, after_fill}
 use Rattle.region.specs.Bytes.{word_at, span_of, Painted}
 use Rattle.bump.specs.Table.{Header, shaped, header_at, headers, walk, live_in, end_in, ended, none_live, bound_of, table, table_granted, table_freed, table_after, bump_offer, bump_means, BumpKept, BumpKeeps, Headed, Struck, Grant, Strike, Paint, Paints}
-use Rattle.bump.proofs.Walks.{shaped_good, walk_end, header_none}
-use Rattle.bump.proofs.Tables.{headers_struck, headers_painted, headers_grown, end_more, Live-more, live_table_freed, end_table_freed}
-use Rattle.bump.proofs.Laws.{Fresh, bump_found, bump_apart, bump_reach, covered_span}
+use Rattle.bump.specs.Walks.{shaped_good}
+use Rattle.bump.proofs.Tables.{headers_struck, headers_painted, headers_grown, end_more, live_more, live_table_freed, end_table_freed}
+use Rattle.bump.specs.Laws.{Fresh, bump_found, bump_apart, bump_reach, covered_span, empty_table}
 use Rattle.std.proofs.lemmas.Bool.{cond-true, cond-false, eq-eqb, ne_eqb, cases_eq, cases_lt, not-true, not-false}
 
 -- the region's table after a grant
@@ -42,7 +42,7 @@ module _ (xs ys : List ℕ) (cursor n : ℕ) (b : Block) (f : Fresh xs cursor n 
   module _ (g : Grant cursor b xs ys) where
     grant_live : (x : ℕ) → live_in (table ys (b.0 + b.1)) 0 x ≡ cond (eqb x b.0) b.1 (live_in (table xs cursor) 0 x)
     grant_live x =
-        ap (λ (cs : List Header). live_in cs 0 x) g.table ∙ Live-more (table xs cursor) 0 b.1 x
+        ap (λ (cs : List Header). live_in cs 0 x) g.table ∙ live_more (table xs cursor) 0 b.1 x
         ∙ ap (λ (z : ℕ). cond (eqb x z) b.1 (live_in (table xs cursor) 0 x)) (ap (λ (z : ℕ). z + 8) f.whole ∙ sym f.at)
 
     pub bump-granted : Granted b.0 b.1 (bump_means xs cursor) (bump_means ys (b.0 + b.1))
@@ -79,16 +79,7 @@ module _ (xs ys : List ℕ) (cursor n : ℕ) (b : Block) (f : Fresh xs cursor n 
       kept = λ z. kept-granted h (k.kept z);
     }
 
--- with the cursor at 0 there are no blocks
-pub empty_table : (ys : List ℕ) → table ys 0 ≡ []
-empty_table ys = walk_end ys (bound_of ys 0) 0 (header_none ys (bound_of ys 0) 0 (omega arith))
-
-empty_kept : (ys : List ℕ) → BumpKept [] ys 0
-empty_kept ys = record { live = λ a. ap (λ (cs : List Header). live_in cs 0 a) (empty_table ys); table = empty_table ys; cursor = refl }
-
-pub bump_begins : (xs : List ℕ) (cursor : ℕ) → BumpKeeps xs cursor [] xs cursor
-bump_begins xs cursor = record { long = refl; rest = λ x l. refl; kept = λ z. subst (λ (q : ℕ). BumpKept [] xs q) (sym z) (empty_kept xs) }
-
+-- with the cursor at 0 nothing is live
 pub bump_none : (xs : List ℕ) (cursor : ℕ) → cursor ≡ 0 → NothingLive (bump_means xs cursor)
 bump_none xs cursor z x = ap (λ (q : ℕ). live_in (table xs q) 0 x) z ∙ ap (λ (cs : List Header). live_in cs 0 x) (empty_table xs)
 

@@ -1,5 +1,3 @@
 pub mod Headings
-pub mod Walks
 pub mod Tables
-pub mod Laws
 pub mod Calls

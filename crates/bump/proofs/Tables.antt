@@ -3,7 +3,7 @@ use Rattle.std.proofs.Common.{◌≡◌, ℕ, zero, suc, ◌+◌, ◌-◌, ◌%�
 use Rattle.region.specs.Bytes.{word_at}
 use Rattle.bump.specs.Table.{Header, shaped, header_at, then_headers, headers, walk, live_in, end_in, ended, none_live, table_freed, Struck}
 use Rattle.region.proofs.Words.{word_same}
-use Rattle.bump.proofs.Walks.{option_cases, shaped_is, shaped_fits, shaped_some, shaped_eighth, shaped_state, shaped_good, shape_of, header_none, then_same, headers_none, headers_some, walk_step, walk_end, live_other, live_here, live_low, both, end_from}
+use Rattle.bump.specs.Walks.{option_cases, shaped_is, shaped_fits, shaped_some, shaped_eighth, shaped_state, shaped_good, shape_of, header_none, then_same, headers_none, headers_some, walk_step, walk_end, live_other, live_here, live_low, both, end_from}
 use Rattle.std.proofs.lemmas.Bool.{cond-true, cond-false, eq-eqb, ne_eqb, cases_eq, cases_lt, cases_Bool}
 
 abbrev onto : Header → List Header → List Header

@@ -4,6 +4,7 @@
 ghost use Rattle.std.specs.Prelude.{◌≡◌};
 ghost use Rattle.heap.specs.Meaning.{NothingLive};
 ghost use Rattle.bump.specs.Table.{bump_means, BumpKeeps};
+ghost use Rattle.bump.specs.Laws.{bump_lawful, bump_begins};
 
 mod blocks;
 mod headers;
@@ -35,6 +36,10 @@ impl<'r> Meant for Bump<'r> {
     ghost means = { λ s. bump_means s.region.now s.cursor };
 
     ghost keeps = { λ from h s. BumpKeeps from.region.now from.cursor h s.region.now s.cursor };
+
+    ghost lawful = { λ s. bump_lawful s.region.now s.cursor };
+
+    ghost begins = { λ s. bump_begins s.region.now s.cursor };
 }
 
 impl<'r> Heap for Bump<'r> {

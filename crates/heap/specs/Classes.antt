@@ -1,8 +1,8 @@
 -- Rounding to the sizes of an ascending list.
 use Rattle.std.specs.Prelude.{◌≡◌, ℕ, zero, suc, ◌+◌, ◌*◌, ◌/◌, ◌^◌, ◌<◌, ◌≤◌, max, List, [], ◌∷◌, nat_le, refl}
-use Rattle.std.proofs.Common.{sym, ◌∙◌, ap, ⊎_elim, lit<, lit≤, add-one, pow_mono, arith}
+use Rattle.std.proofs.Common.{rules, sym, ◌∙◌, ap, ⊎_elim, lit<, lit≤, add-one, pow_mono, arith}
 use Rattle.std.proofs.Math.Nat.{pow-succ'}
-use Rattle.heap.specs.Roundings.{LawfulRounding, up_to_largest, least_in, doubles, power}
+use Rattle.heap.specs.Roundings.{LawfulRounding, up_to_largest, least_in, doubles, grain, power}
 use Rattle.std.proofs.lemmas.Bool.{cond-true, cond-false, le-leb, lt-leb, cases_lt, cases_eq}
 
 -- each size is above the one before it
@@ -138,3 +138,6 @@ next_power n k some small h g =
     let e = first_is 8 (doubles 11 16) n (omega arith) in
     omega arith)
     (cases_lt 3 k)
+
+pub grain_lawful : LawfulRounding 8192 grain
+grain_lawful = search rules

@@ -1,8 +1,7 @@
 // Lawful roundings: sizes go up to a few, so that a freed block serves every size that was rounded to its own.
 ghost use Rattle.std.specs.Prelude.{◌≡◌, ℕ};
 ghost use Rattle.heap.specs.Roundings.{LawfulRounding, grain, power};
-ghost use Rattle.std.proofs.Common.{rules};
-ghost use Rattle.heap.specs.Classes.{power_lawful};
+ghost use Rattle.heap.specs.Classes.{grain_lawful, power_lawful};
 
 pub trait Rounding {
     // The largest size that is rounded; larger ones are refused.
@@ -12,6 +11,8 @@ pub trait Rounding {
 
     ghost rounds: { ℕ → ℕ };
 
+    ghost lawful: { LawfulRounding largest rounds };
+
     // LARGEST, for generic code: a clause cannot name a constant of a type parameter.
     fn limit() -> u32
         ensures { result ≡ largest };
@@ -19,8 +20,6 @@ pub trait Rounding {
     // The size that stands for `n`; 0 where `n` is 0 or above the largest.
     fn round(n: u32) -> u32
         ensures { result ≡ rounds n };
-
-    ghost lawful: { LawfulRounding largest rounds };
 }
 
 // To multiples of 8.
@@ -34,7 +33,7 @@ impl Rounding for Grain {
 
     ghost rounds = { grain };
 
-    ghost lawful = { Prim.search rules };
+    ghost lawful = { grain_lawful };
 
     fn limit() -> u32 {
         Self::LARGEST

@@ -1,9 +1,8 @@
 // A heap made of two: what the first refuses, the second is asked for.
-ghost use Rattle.std.specs.Prelude.{◌≡◌};
+ghost use Rattle.std.specs.Prelude.{refl, ◌≡◌};
 ghost use Rattle.heap.specs.Meaning.{NothingLive};
 ghost use Rattle.pairs.specs.PairStates.{fallback_means, fallback_keeps};
 ghost use Rattle.pairs.specs.Paired.{fallen_back_lawful};
-ghost use Rattle.std.proofs.Common.{rules};
 
 use crate::pair::Pair;
 use heap::checks::admit;
@@ -35,7 +34,7 @@ impl<A: Heap, B: Heap> Meant for Fallback<A, B> {
 
     ghost lawful = { λ s. fallen_back_lawful _ _ (A.Meant.lawful s.pair.first) (B.Meant.lawful s.pair.second) };
 
-    ghost begins = { Prim.search rules };
+    ghost begins = { λ s. record { span = refl; first = A.Meant.begins s.pair.first; second = B.Meant.begins s.pair.second } };
 }
 
 impl<A: Heap, B: Heap> Heap for Fallback<A, B> {

@@ -1,9 +1,8 @@
 // A heap made of two: sizes up to a threshold go to the first, larger ones to the second.
-ghost use Rattle.std.specs.Prelude.{◌≡◌, nat_le};
+ghost use Rattle.std.specs.Prelude.{refl, ◌≡◌, nat_le};
 ghost use Rattle.heap.specs.Meaning.{NothingLive};
 ghost use Rattle.pairs.specs.PairStates.{segregator_means, SegregatorKeeps};
 ghost use Rattle.pairs.specs.Paired.{segregated_lawful};
-ghost use Rattle.std.proofs.Common.{rules};
 
 use crate::pair::Pair;
 use heap::checks::admit;
@@ -45,7 +44,7 @@ impl<A: Heap, B: Heap> Meant for Segregator<A, B> {
 
     ghost lawful = { λ s. segregated_lawful s.threshold _ _ (A.Meant.lawful s.pair.first) (B.Meant.lawful s.pair.second) };
 
-    ghost begins = { Prim.search rules };
+    ghost begins = { λ s. record { threshold = refl; pair = record { span = refl; first = A.Meant.begins s.pair.first; second = B.Meant.begins s.pair.second } } };
 }
 
 impl<A: Heap, B: Heap> Heap for Segregator<A, B> {

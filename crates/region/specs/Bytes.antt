@@ -1,5 +1,5 @@
 -- The bytes of a lent region: numbers of four bytes, stretches of one byte, and the used length.
-use Rattle.std.specs.Prelude.{◌≡◌, ℕ, ◌+◌, ◌*◌, ◌/◌, ◌%◌, min, List, length, set, slice_index, slice_set}
+use Rattle.std.specs.Prelude.{◌≡◌, ℕ, ◌+◌, ◌*◌, ◌/◌, ◌%◌, min, List, length, slice_index, slice_set}
 use Rattle.heap.specs.Meaning.{In}
 
 -- the number in the four bytes from p on, lowest first

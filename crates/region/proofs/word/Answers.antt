@@ -4,4 +4,4 @@ use Rattle.region.proofs.word.Goals as goal
 
 pub returns : goal.returns
 unfolding word_at
-returns c = record { inside = λ h. c.from-le-bytes.ensures; outside = λ h. absurd (let z : ⊥ = omega arith in z) }
+returns c = record { inside = λ h. c.from_le_bytes.ensures; outside = λ h. absurd (let z : ⊥ = omega arith in z) }

@@ -1,14 +1,14 @@
 use Rattle.std.proofs.Common.{sym}
-use Rattle.bump.proofs.Laws.{fresh}
+use Rattle.bump.specs.Laws.{fresh}
 use Rattle.bump.proofs.Calls.{bump-granted, keeps_granted}
 use Rattle.bump.proofs.BumpHeap.allocate.Goals as goal
 
 pub returns : goal.returns
 returns c =
-    let b = c.in-ok-block.block in
-    let e = c.in-ok-block.ensures in
+    let b = c.in_ok-block.block in
+    let e = c.in_ok-block.ensures in
     let xs = c.args.self.now.region.now in
-    let ys = c.allocate-in.new.region in
+    let ys = c.allocate_in.new.region in
     let cursor = c.args.self.now.cursor in
     let f = fresh xs cursor c.args.n b (sym e.answer) in
     record {

@@ -8,7 +8,7 @@ use Rattle.heap.proofs.Checked.{free_checked}
 use Rattle.region.specs.Bytes.{put_word}
 use Rattle.bump.specs.Table.{live_in, table, bump_means, Struck}
 use Rattle.bump.proofs.Headings.{struck}
-use Rattle.bump.proofs.Laws.{bump_lawful, bump_reach}
+use Rattle.bump.specs.Laws.{bump_lawful, bump_reach}
 use Rattle.bump.proofs.Calls.{strike_on, strike_over}
 use Rattle.bump.proofs.blocks.free_in.Goals as goal
 
@@ -21,29 +21,29 @@ ends xs ys cursor a h e =
     let l = r.region in
     struck a xs ys r.low (omega arith) e
 
-pub overflow-sub-a : goal.overflow-sub-a
-overflow-sub-a c =
-    let r = (bump_reach c.args.region.now c.args.cursor c.args.a (was c.args.region.now c.args.cursor c.args.a c.find-at.result c.check-free.result c.find-at.ensures c.check-free.ensures c.in-ok-check-free.was)).low in
+pub overflow_sub-a : goal.overflow_sub-a
+overflow_sub-a c =
+    let r = (bump_reach c.args.region.now c.args.cursor c.args.a (was c.args.region.now c.args.cursor c.args.a c.find_at.result c.check_free.result c.find_at.ensures c.check_free.ensures c.in_ok-check_free.was)).low in
     omega arith
 
-pub returns-then-any-live : goal.returns-then-any-live
-returns-then-any-live c =
+pub returns-then-any_live : goal.returns-then-any_live
+returns-then-any_live c =
     let xs = c.args.region.now in
-    let ys = c.put-word.new.region in
-    let w = was xs c.args.cursor c.args.a c.find-at.result c.check-free.result c.find-at.ensures c.check-free.ensures c.in-ok-check-free.was in
-    strike_on xs ys c.args.cursor c.args.a w (ends xs ys c.args.cursor c.args.a w c.put-word.ensures.inside) c.bound.result c.bound.ensures c.if-any-live.ensures
+    let ys = c.put_word.new.region in
+    let w = was xs c.args.cursor c.args.a c.find_at.result c.check_free.result c.find_at.ensures c.check_free.ensures c.in_ok-check_free.was in
+    strike_on xs ys c.args.cursor c.args.a w (ends xs ys c.args.cursor c.args.a w c.put_word.ensures.inside) c.bound.result c.bound.ensures c.if-any_live.ensures
 
-pub returns-else-any-live : goal.returns-else-any-live
-returns-else-any-live c =
+pub returns-else-any_live : goal.returns-else-any_live
+returns-else-any_live c =
     let xs = c.args.region.now in
-    let ys = c.put-word.new.region in
-    let w = was xs c.args.cursor c.args.a c.find-at.result c.check-free.result c.find-at.ensures c.check-free.ensures c.in-ok-check-free.was in
-    strike_over xs ys c.args.cursor c.args.a w (ends xs ys c.args.cursor c.args.a w c.put-word.ensures.inside) c.bound.result c.bound.ensures c.if-any-live.ensures
+    let ys = c.put_word.new.region in
+    let w = was xs c.args.cursor c.args.a c.find_at.result c.check_free.result c.find_at.ensures c.check_free.ensures c.in_ok-check_free.was in
+    strike_over xs ys c.args.cursor c.args.a w (ends xs ys c.args.cursor c.args.a w c.put_word.ensures.inside) c.bound.result c.bound.ensures c.if-any_live.ensures
 
-pub returns-in-err-check-free : goal.returns-in-err-check-free
-returns-in-err-check-free c =
+pub returns-in_err-check_free : goal.returns-in_err-check_free
+returns-in_err-check_free c =
     let xs = c.args.region.now in
     let cursor = c.args.cursor in
-    let p = err_from_is_err_and c.from-residual.result c.from-residual.ensures.1 in
-    let q = free_checked BumpK (bump_means xs cursor) (bump_lawful xs cursor) c.args.a c.find-at.result c.find-at.ensures (Err c.in-err-check-free.field-0.0) c.in-err-check-free.ensures in
+    let p = err_from_is_err_and c.from_residual.result c.from_residual.ensures.1 in
+    let q = free_checked BumpK (bump_means xs cursor) (bump_lawful xs cursor) c.args.a c.find_at.result c.find_at.ensures (Err c.in_err-check_free.field-0.0) c.in_err-check_free.ensures in
     rw (p.1, p.2) (q.0, q.1, refl)

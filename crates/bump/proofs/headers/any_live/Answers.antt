@@ -1,7 +1,7 @@
 use Rattle.std.proofs.Common.{false, not, eqb, sym, ap, ◌∙◌}
 use Rattle.std.proofs.lemmas.Bool.{cond-true, cond-false, eq-eqb, ne_eqb}
 use Rattle.bump.specs.Table.{walk, none_live}
-use Rattle.bump.proofs.Walks.{walk_step, walk_end}
+use Rattle.bump.specs.Walks.{walk_step, walk_end}
 use Rattle.bump.proofs.headers.any_live.Goals as goal
 
 pub returns-then-state-eq-LIVE : goal.returns-then-state-eq-LIVE
@@ -24,4 +24,4 @@ loop-length-preserved c =
     (e.inside.fits, sym (step ∙ past) ∙ c.loop-length.invariant.1)
 
 pub returns : goal.returns
-returns c = ap not (sym (ap none_live (walk_end c.args.region.now c.args.bound c.loop-length.p (sym c.in-default.ensures.value))) ∙ c.loop-length.invariant.1)
+returns c = ap not (sym (ap none_live (walk_end c.args.region.now c.args.bound c.loop-length.p (sym c.in_default.ensures.value))) ∙ c.loop-length.invariant.1)

@@ -2,7 +2,7 @@ use Rattle.std.proofs.Common.{◌≡◌, ◌+◌, ◌<◌, ◌≤◌, cond, eqb,
 use Rattle.std.proofs.lemmas.Bool.{cases_lt}
 use Rattle.heap.specs.Meaning.{In}
 use Rattle.bump.specs.Table.{Header, live_in, walk}
-use Rattle.bump.proofs.Walks.{from_step, from_live, from_none, past_step, out_past, out_before, out_ended}
+use Rattle.bump.specs.Walks.{from_step, from_live, from_none, past_step, out_past, out_before, out_ended}
 use Rattle.bump.proofs.headers.find_in.Goals as goal
 use Rattle.bump.proofs.headers.find_in.Goals.{else-state-eq-LIVE-via-then-state-eq-LIVE+then-p-a+else-a-p, else-state-eq-LIVE-via-then-state-eq-LIVE+else-p-a, else-state-eq-LIVE-via-else-state-eq-LIVE}
 
@@ -40,7 +40,7 @@ returns c b i =
     ⊎_elim
     (λ (q : b < c.loop-length.p). c.loop-length.invariant.2 b q i)
     (λ (q : c.loop-length.p ≤ b).
-    let z : live_in (walk xs bound 0) 0 b ≡ 0 = from_none (live_in (walk xs bound 0) 0) xs bound c.loop-length.p (sym c.in-default.ensures.value) c.loop-length.invariant.1 b q in
+    let z : live_in (walk xs bound 0) 0 b ≡ 0 = from_none (live_in (walk xs bound 0) 0) xs bound c.loop-length.p (sym c.in_default.ensures.value) c.loop-length.invariant.1 b q in
     let f = i.from in
     let l = i.below in
     omega arith)

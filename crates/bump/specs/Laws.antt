@@ -1,5 +1,5 @@
 -- The laws of a bump heap's meaning: what it offers, and where its live blocks lie.
-use Rattle.std.proofs.Common.{◌≡◌, ℕ, ◌+◌, ◌%◌, ◌<◌, ◌≤◌, cond, eqb, leb, List, length, Ok, Err, Result, sym, refl, ap, subst, inr, arith, lit≤}
+use Rattle.std.proofs.Common.{◌≡◌, ℕ, ◌+◌, ◌%◌, ◌<◌, ◌≤◌, cond, eqb, leb, List, [], length, Ok, Err, Result, sym, refl, ap, subst, inr, arith, lit≤}
 use Rattle.heap.specs.declared.fault.Fault.{Fault}
 use Rattle.heap.specs.declared.fault.Kind.TheVariants.{Bump as BumpK}
 use Rattle.heap.specs.declared.fault.Cause.TheVariants.{Full}
@@ -8,8 +8,8 @@ use Rattle.heap.specs.Meaning.{Block, Lawful, HeapFault, HeapKind, Covered}
 use Rattle.heap.specs.Roundings.{up8}
 use Rattle.heap.proofs.Offers.{admits, admits_large, admits_refused, raised_fault}
 use Rattle.region.specs.Bytes.{span_of}
-use Rattle.bump.specs.Table.{live_in, end_in, bound_of, table, bump_offer, bump_means}
-use Rattle.bump.proofs.Walks.{Found, laid_walk, laid_found, laid_apart, end_eighth}
+use Rattle.bump.specs.Table.{live_in, end_in, bound_of, table, bump_offer, bump_means, BumpKept, BumpKeeps, Header}
+use Rattle.bump.specs.Walks.{walk_end, header_none, Found, laid_walk, laid_found, laid_apart, end_eighth}
 
 -- a block or cause 5, by the tests alone
 abbrev fits_in : ℕ → ℕ → ℕ → ℕ → ℕ → Result Block Fault
@@ -99,3 +99,13 @@ covered_span xs cursor a c z k =
 
 pub covered_region : (xs : List ℕ) (cursor a c : ℕ) → 0 < c → Covered (live_in (table xs cursor) 0) a c → a + c ≤ length xs
 covered_region xs cursor a c z k = let s = covered_span xs cursor a c z k in omega arith
+
+-- with the cursor at 0 there are no blocks
+pub empty_table : (ys : List ℕ) → table ys 0 ≡ []
+empty_table ys = walk_end ys (bound_of ys 0) 0 (header_none ys (bound_of ys 0) 0 (omega arith))
+
+empty_kept : (ys : List ℕ) → BumpKept [] ys 0
+empty_kept ys = record { live = λ a. ap (λ (cs : List Header). live_in cs 0 a) (empty_table ys); table = empty_table ys; cursor = refl }
+
+pub bump_begins : (xs : List ℕ) (cursor : ℕ) → BumpKeeps xs cursor [] xs cursor
+bump_begins xs cursor = record { long = refl; rest = λ x l. refl; kept = λ z. subst (λ (q : ℕ). BumpKept [] xs q) (sym z) (empty_kept xs) }
