@@ -1,7 +1,7 @@
 -- The account of a quota: sums over live lengths, as blocks come and go.
-use Rattle.std.specs.Prelude.{◌≡◌, ℕ, zero, suc, ◌+◌, ◌-◌, ◌<◌, ◌≤◌, cond, Ok, ◌==◌, ◌≢◌, refl}
+use Rattle.std.specs.Prelude.{◌≡◌, ℕ, zero, suc, ◌+◌, ◌-◌, ◌<◌, ◌≤◌, cond, ◌==◌, ◌≢◌, refl}
 use Rattle.std.proofs.Common.{sym, ◌∙◌, ap, ⊎_elim, arith}
-use Rattle.heap.specs.Meaning.{Meaning, Block, Lawful, Stays, Granted, Freed, NothingLive}
+use Rattle.heap.specs.Meaning.{Meaning, Lawful, Stays, Granted, Freed, NothingLive}
 use Rattle.layers.specs.Quotas.{Paid, sum_below}
 use Rattle.std.proofs.lemmas.Bool.{cond-true, cond-false, eq-eqb, ne_eqb, cases_eq}
 

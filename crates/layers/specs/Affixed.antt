@@ -1,17 +1,17 @@
 -- An affix's law, and its calls from those below.
-use Rattle.std.specs.Prelude.{◌≡◌, ℕ, ◌+◌, ◌-◌, ◌%◌, ◌<◌, ◌≤◌, Bool, true, false, cond, ◌⊎◌, ◌∷◌, Some, None, Ok, Err, Option, Result, ◌==◌, nat_le, refl}
+use Rattle.std.specs.Prelude.{◌≡◌, ℕ, ◌+◌, ◌-◌, ◌<◌, ◌≤◌, Bool, true, false, cond, ◌⊎◌, ◌∷◌, Ok, Err, Result, ◌==◌, nat_le, refl}
 use Rattle.std.proofs.Common.{sym, ◌∙◌, ap, subst, inl, inr, ⊎_elim, lit≤, arith}
 use Rattle.heap.specs.declared.fault.Fault.{Fault}
 use Rattle.heap.specs.declared.fault.Kind.{Kind}
 use Rattle.heap.specs.declared.fault.Kind.TheVariants.{Affix as AffixK}
-use Rattle.heap.specs.Faults.{raised, up, own, and_then}
+use Rattle.heap.specs.Faults.{up, own, and_then}
 use Rattle.heap.specs.Checks.{admitted}
 use Rattle.heap.specs.Meaning.{Meaning, Block, Lawful, HeapFault, Sits, In, Covered, Apart, Stays, Same, SameOffers, Granted, Freed, Filled, MayFree, MayFill, Allocates, Frees, Fills, NothingLive}
 use Rattle.heap.specs.Histories.{History, granted, filled, after_allocate, after_free, after_fill}
 use Rattle.heap.proofs.Lawful.{same_start, surely_filled, surely_entered}
-use Rattle.heap.proofs.Offers.{Admits, admits, admits_large, admits_refused, admitted_same, admitted_some, admitted_most, up_ok, up_fault, and_then_same}
-use Rattle.layers.specs.Affixes.{affix_live, inner_block, affix_offer, affixed, Marked, Whole, AllWhole, sent_affixed}
-use Rattle.std.proofs.lemmas.Bool.{cond-true, cond-false, le-leb, lt-leb, eq-eqb, ne_eqb, cases_eq, cases_lt}
+use Rattle.heap.proofs.Offers.{admits, admits_large, admits_refused, admitted_same, admitted_some, admitted_most, up_ok, up_fault, and_then_same}
+use Rattle.layers.specs.Affixes.{affix_live, inner_block, affix_offer, affixed, AllWhole, sent_affixed}
+use Rattle.std.proofs.lemmas.Bool.{cond-true, cond-false, lt-leb, eq-eqb, ne_eqb, cases_eq, cases_lt}
 
 -- the block below a block above
 pub record Outer (live : ℕ → ℕ) (a : ℕ) : Type 0 where

@@ -1,5 +1,5 @@
 -- An affix over a heap: each block below holds a block above between two marks of eight bytes.
-use Rattle.std.specs.Prelude.{◌≡◌, ℕ, ◌+◌, ◌-◌, ◌<◌, ◌≤◌, cond, [], ◌∷◌, Ok, Err, Result, nat_le}
+use Rattle.std.specs.Prelude.{◌≡◌, ℕ, ◌+◌, ◌-◌, ◌<◌, cond, [], ◌∷◌, Ok, Result, nat_le}
 use Rattle.heap.specs.declared.fault.Fault.{Fault}
 use Rattle.heap.specs.declared.fault.Kind.TheVariants.{Affix as AffixK}
 use Rattle.heap.specs.Faults.{up, and_then}

@@ -1,14 +1,14 @@
 -- A quota's law, and its calls from those below, by cases on the answer.
-use Rattle.std.specs.Prelude.{◌≡◌, ℕ, ◌+◌, ◌-◌, ◌<◌, ◌≤◌, cond, leb, Ok, Err, Result, refl}
-use Rattle.std.proofs.Common.{sym, ◌∙◌, ap, subst, lit≤, arith}
+use Rattle.std.specs.Prelude.{◌≡◌, ℕ, ◌+◌, ◌≤◌, Ok, Err, Result, refl}
+use Rattle.std.proofs.Common.{sym, subst, lit≤, arith}
 use Rattle.heap.specs.declared.fault.Fault.{Fault}
 use Rattle.heap.specs.declared.fault.Kind.TheVariants.{Quota as QuotaK}
 use Rattle.heap.specs.declared.fault.Cause.TheVariants.{OverQuota}
 use Rattle.heap.specs.Faults.{raised, up, own, and_then}
 use Rattle.heap.specs.Checks.{admitted}
-use Rattle.heap.specs.Meaning.{Meaning, Block, Lawful, HeapFault, SameOffers, Same, MayFree, MayFill, Allocates, Frees, Fills, with_offers}
+use Rattle.heap.specs.Meaning.{Meaning, Block, Lawful, HeapFault, SameOffers, Same, MayFree, Allocates, Frees, Fills}
 use Rattle.heap.proofs.Lawful.{offered_free, offered_below}
-use Rattle.heap.proofs.Offers.{Admits, From, admits, up_ok, up_fault, raised_fault, lawful_with, and_then_same, granted_with, freed_with, same-with, fills-with}
+use Rattle.heap.proofs.Offers.{admits, up_fault, raised_fault, lawful_with, and_then_same, granted_with, freed_with, same-with, fills-with}
 use Rattle.layers.specs.Quotas.{within_limit, quota_offer, rationed, Charges, Credits, Paid}
 use Rattle.layers.specs.Accounts.{granted_paid, freed_paid, stays_paid, stays_paid_live}
 

@@ -1,11 +1,11 @@
 -- A rounding layer's law.
-use Rattle.std.specs.Prelude.{◌≡◌, ℕ, ◌≤◌}
+use Rattle.std.specs.Prelude.{ℕ}
 use Rattle.std.proofs.Common.{lit≤}
 use Rattle.heap.specs.declared.fault.Kind.TheVariants.{Rounding as RoundingK}
 use Rattle.heap.specs.Faults.{up}
 use Rattle.heap.specs.Meaning.{Meaning, Lawful}
 use Rattle.heap.specs.Roundings.{LawfulRounding}
-use Rattle.heap.proofs.Offers.{Admits, From, up_ok, up_fault, lawful_with}
+use Rattle.heap.proofs.Offers.{up_ok, up_fault, lawful_with}
 use Rattle.layers.specs.Roundeds.{rounded}
 
 pub rounded_lawful : (largest : ℕ) (rounds : ℕ → ℕ) (m : Meaning) → LawfulRounding largest rounds → Lawful m → Lawful (rounded largest rounds m)

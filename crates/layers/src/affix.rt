@@ -4,7 +4,6 @@ ghost use Rattle.heap.specs.Meaning.{Covered, NothingLive, Finds};
 ghost use Rattle.layers.specs.Affixes.{affix_live, Marked, Whole, AllWhole};
 ghost use Rattle.layers.specs.Affix.{affix_means, AffixKeeps};
 ghost use Rattle.layers.specs.Affixed.{affixed_lawful};
-ghost use Rattle.std.proofs.Common.{rules};
 
 use heap::checks::{admit, begun_at, check_fill, check_free, check_get};
 use heap::fault::{Fault, Kind, hand_up, make_own};
@@ -84,7 +83,7 @@ impl<H: Heap> Meant for Affix<H> {
 
     ghost lawful = { λ s. affixed_lawful _ (H.Meant.lawful s.below) };
 
-    ghost begins = { Prim.search rules };
+    ghost begins = { λ s. record { whole = λ w. w; below = H.Meant.begins s.below } };
 }
 
 impl<H: Heap> Heap for Affix<H> {

@@ -1,11 +1,10 @@
 // A layer that keeps the total length of the live blocks within a limit.
-ghost use Rattle.std.specs.Prelude.{◌≡◌, ◌+◌, ◌≤◌};
+ghost use Rattle.std.specs.Prelude.{refl, ◌≡◌, ◌+◌, ◌≤◌};
 ghost use Rattle.heap.specs.Histories.{History, after_allocate, after_free};
 ghost use Rattle.heap.specs.Meaning.{NothingLive, Allocates, MayFree, Frees};
 ghost use Rattle.layers.specs.Quotas.{Charges, Credits, Paid, quota_offer};
 ghost use Rattle.layers.specs.Quota.{quota_means, QuotaKeeps};
 ghost use Rattle.layers.specs.Rationed.{rationed_lawful};
-ghost use Rattle.std.proofs.Common.{rules};
 
 use heap::checks::admit;
 use heap::fault::{Cause, Fault, Kind, hand_up, make_own};
@@ -96,7 +95,7 @@ impl<H: Heap> Meant for Quota<H> {
 
     ghost lawful = { λ s. rationed_lawful s.limit s.account _ (H.Meant.lawful s.below) };
 
-    ghost begins = { Prim.search rules };
+    ghost begins = { λ s. record { limit = refl; paid = λ p. p; below = H.Meant.begins s.below } };
 }
 
 impl<H: Heap> Heap for Quota<H> {

@@ -3,7 +3,6 @@ ghost use Rattle.std.specs.Prelude.{◌≡◌};
 ghost use Rattle.layers.specs.Roundeds.{rounded_size};
 ghost use Rattle.layers.specs.Rounded.{rounded_means, rounded_keeps};
 ghost use Rattle.layers.specs.RoundedsLemmas.{rounded_lawful};
-ghost use Rattle.std.proofs.Common.{rules};
 
 use heap::checks::admit;
 use heap::fault::{Fault, Kind, hand_up, make_own};
@@ -40,7 +39,7 @@ impl<H: Heap, R: Rounding> Meant for Rounded<H, R> {
 
     ghost lawful = { λ s. rounded_lawful _ _ _ R.Rounding.lawful (H.Meant.lawful s.below) };
 
-    ghost begins = { Prim.search rules };
+    ghost begins = { λ s. H.Meant.begins s.below };
 }
 
 impl<H: Heap, R: Rounding> Heap for Rounded<H, R> {

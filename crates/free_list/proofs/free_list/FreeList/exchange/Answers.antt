@@ -4,11 +4,11 @@ use Rattle.free_list.proofs.free_list.FreeList.exchange.Goals as goal
 
 pub returns : goal.returns
 returns g c =
-    let first = c.give-back-freed.ensures in
+    let first = c.give_back-freed.ensures in
     let second = c.allocate-granted.ensures in
     record {
       after = record {
-        between = free_list_means g.R.Rounding.largest g.R.Rounding.rounds g.H.Meant.means c.give-back-freed.new.self;
+        between = free_list_means g.R.Rounding.largest g.R.Rounding.rounds g.H.Meant.means c.give_back-freed.new.self;
         may_free = first.answer;
         frees = first.after;
         offered = second.answer;

@@ -22,7 +22,7 @@ returns-then-size-c g c =
     let more : c.loop-i.i ≡ i + 1 = omega arith in
     let less : i < length held = omega (arith, c.loop-i.invariant.0) in
     let a = c.get-a.ensures in
-    let l : c.length-at-c.result ≡ live (get_or held i 0) = c.length-at-c.ensures ∙ ap live a in
+    let l : c.length_at-c.result ≡ live (get_or held i 0) = c.length_at-c.ensures ∙ ap live a in
     let here = newest_here live c.args.size held i less (omega (arith, c.if-size-c.true)) in
     let there = c.loop-i.invariant.1 in
     cc (ap (λ (n : ℕ). newest live c.args.size (take n held)) more)
@@ -35,7 +35,7 @@ loop-i-preserved g c =
     let i = c.loop-i.i - 1 in
     let more : c.loop-i.i ≡ i + 1 = omega arith in
     let less : i < length held = omega (arith, c.loop-i.invariant.0) in
-    let l : c.length-at-c.result ≡ live (get_or held i 0) = c.length-at-c.ensures ∙ ap live c.get-a.ensures in (
+    let l : c.length_at-c.result ≡ live (get_or held i 0) = c.length_at-c.ensures ∙ ap live c.get-a.ensures in (
       omega (arith, c.loop-i.invariant.0),
       c.loop-i.invariant.1 ∙ ap (λ (n : ℕ). newest live c.args.size (take n held)) more ∙ newest_before live c.args.size held i less (omega (arith, c.if-size-c.false)),
     )

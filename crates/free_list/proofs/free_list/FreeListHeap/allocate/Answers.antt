@@ -9,9 +9,9 @@ pub serve-requires : goal.serve-requires
 serve-requires g c =
     let s = c.args.self.now in
     let b = c.in-Some.block in
-    let k = c.in-ok-size.size in
+    let k = c.in_ok-size.size in
     let v = serves (g.H.Meant.means s.below).live k (listed s.held) b (sym c.in-Some.ensures) in
-    let some : 1 ≤ k = asked_some g.R.Rounding.largest g.R.Rounding.rounds c.args.n k (sym c.in-ok-size.ensures) g.met.R.Rounding.lawful in
+    let some : 1 ≤ k = asked_some g.R.Rounding.largest g.R.Rounding.rounds c.args.n k (sym c.in_ok-size.ensures) g.R.Rounding.lawful in
     record { some = omega (arith, v.long, v.entire); live = sym v.entire }
 
 pub returns-in-Some : goal.returns-in-Some
@@ -26,9 +26,9 @@ returns-in-Some g c =
     let R = g.R.Rounding.rounds in
     let n = c.args.n in
     let b = c.in-Some.block in
-    let k = c.in-ok-size.size in
+    let k = c.in_ok-size.size in
     let e = c.serve.ensures in
-    let asks = sym c.in-ok-size.ensures in
+    let asks = sym c.in_ok-size.ensures in
     let serving = sym c.in-Some.ensures in
     let v = serves m.live k held b serving in
     let long : R n ≤ b.1 = omega (arith, v.long, v.entire, asked_rounded L R n k asks) in
@@ -50,9 +50,9 @@ returns-in-None g c =
     let L = g.R.Rounding.largest in
     let R = g.R.Rounding.rounds in
     let n = c.args.n in
-    let k = c.in-ok-size.size in
+    let k = c.in_ok-size.size in
     let e = c.fetch.ensures in
-    let asks = sym c.in-ok-size.ensures in
+    let asks = sym c.in_ok-size.ensures in
     record {
       answer = e.answer ∙ answer_fetched L R n k asks held m (sym c.in-None.ensures);
       after = fetched_allocates L R held held' m m' c.fetch.result e.held e.after;

@@ -1,4 +1,4 @@
-use Rattle.std.proofs.Common.{◌≡◌, Ok, Err, sym}
+use Rattle.std.proofs.Common.{Err, sym}
 use Rattle.std.proofs.lemmas.Result.{err_from_is_err_and}
 use Rattle.heap.specs.declared.fault.Kind.TheVariants.{FreeList as FreeListK}
 use Rattle.heap.proofs.Lawful.{unchanged}
@@ -23,24 +23,24 @@ returns g c =
     let n = c.args.c in
     let r = c.fill.result in
     let e = c.fill.ensures in
-    let v = free_listed_lawful L R held m g.met.R.Rounding.lawful (g.H.Meant.lawful s.below) in
-    let i = fill_covered FreeListK (free_listed L R held m) v a c.covering.result c.covering.ensures n (sym c.in-ok-check-fill.ensures) in
+    let v = free_listed_lawful L R held m g.R.Rounding.lawful (g.H.Meant.lawful s.below) in
+    let i = fill_covered FreeListK (free_listed L R held m) v a c.covering.result c.covering.ensures n (sym c.in_ok-check_fill.ensures) in
     record {
-      answer = rw c.make-own.ensures (own-fill FreeListK m.kind (unheld held m.live) m.live a a n (covered_below held m.live a n) (λ _. i) r e.answer);
-      after = rw c.make-own.ensures (below_fills L R held m m' a n c.args.b r e.after);
-      kept = λ from h k. rw c.make-own.ensures (below_fill_keeps R (listed from.held) (g.H.Meant.means from.below).live held m m' (λ q. g.H.Meant.keeps from.below q s.below) (λ q. g.H.Meant.keeps from.below q c.fill.new.self) h k a n c.args.b r e.after (e.kept from.below));
+      answer = rw c.make_own.ensures (own-fill FreeListK m.kind (unheld held m.live) m.live a a n (covered_below held m.live a n) (λ _. i) r e.answer);
+      after = rw c.make_own.ensures (below_fills L R held m m' a n c.args.b r e.after);
+      kept = λ from h k. rw c.make_own.ensures (below_fill_keeps R (listed from.held) (g.H.Meant.means from.below).live held m m' (λ q. g.H.Meant.keeps from.below q s.below) (λ q. g.H.Meant.keeps from.below q c.fill.new.self) h k a n c.args.b r e.after (e.kept from.below));
     }
 
-pub returns-in-err-check-fill : goal.returns-in-err-check-fill
-returns-in-err-check-fill g c =
+pub returns-in_err-check_fill : goal.returns-in_err-check_fill
+returns-in_err-check_fill g c =
     let s = c.args.self.now in
     let m = g.H.Meant.means s.below in
     let held = listed s.held in
     let L = g.R.Rounding.largest in
     let R = g.R.Rounding.rounds in
-    let p = err_from_is_err_and c.from-residual.result c.from-residual.ensures.1 in
+    let p = err_from_is_err_and c.from_residual.result c.from_residual.ensures.1 in
     rw (p.1, p.2) (record {
-      answer = fill_checked FreeListK (free_listed L R held m) (free_listed_lawful L R held m g.met.R.Rounding.lawful (g.H.Meant.lawful s.below)) c.args.a c.covering.result c.covering.ensures c.args.c (Err c.in-err-check-fill.field-0.0) c.in-err-check-fill.ensures;
+      answer = fill_checked FreeListK (free_listed L R held m) (free_listed_lawful L R held m g.R.Rounding.lawful (g.H.Meant.lawful s.below)) c.args.a c.covering.result c.covering.ensures c.args.c (Err c.in_err-check_fill.field-0.0) c.in_err-check_fill.ensures;
       after = unchanged (free_listed L R held m);
       kept = λ from h k. k;
     })

@@ -1,4 +1,4 @@
-use Rattle.std.proofs.Common.{Ok, sym, refl}
+use Rattle.std.proofs.Common.{sym, refl}
 use Rattle.heap.specs.declared.fault.Kind.TheVariants.{FreeList as FreeListK}
 use Rattle.heap.proofs.Checked.{get_checked}
 use Rattle.heap.proofs.Offers.{own_get}
@@ -16,6 +16,6 @@ returns g c =
     let a = c.args.a in
     let L = g.R.Rounding.largest in
     let R = g.R.Rounding.rounds in
-    let t = get_checked FreeListK (free_listed L R held m) (free_listed_lawful L R held m g.met.R.Rounding.lawful (g.H.Meant.lawful s.below)) a c.covering.result c.covering.ensures in
-    let i = t.accepted (sym c.in-ok-check-get.ensures) in
-    rw c.make-own.ensures (own_get FreeListK m.kind (unheld held m.live) m.live a a m.byte m.byte c.get.result (covered_below held m.live a 1) (λ _. i) refl c.get.ensures)
+    let t = get_checked FreeListK (free_listed L R held m) (free_listed_lawful L R held m g.R.Rounding.lawful (g.H.Meant.lawful s.below)) a c.covering.result c.covering.ensures in
+    let i = t.accepted (sym c.in_ok-check_get.ensures) in
+    rw c.make_own.ensures (own_get FreeListK m.kind (unheld held m.live) m.live a a m.byte m.byte c.get.result (covered_below held m.live a 1) (λ _. i) refl c.get.ensures)

@@ -7,4 +7,4 @@ use Rattle.layers.proofs.affix.Affix.length.Goals as goal
 pub returns : goal.returns
 returns g c =
     let s = c.args.self.now.below in
-    c.begun-at.ensures ∙ sym (begun_is (affixed (g.H.Meant.means s)) (affixed_lawful (g.H.Meant.means s) (g.H.Meant.lawful s)) c.args.a c.inner.result c.inner.ensures)
+    c.begun_at.ensures ∙ sym (begun_is (affixed (g.H.Meant.means s)) (affixed_lawful (g.H.Meant.means s) (g.H.Meant.lawful s)) c.args.a c.inner.result c.inner.ensures)

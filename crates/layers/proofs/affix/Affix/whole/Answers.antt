@@ -1,5 +1,5 @@
-use Rattle.std.proofs.Common.{◌≡◌, ℕ, ◌+◌, ◌-◌, ◌<◌, ◌≤◌, true, false, sym, ap, ◌∙◌, subst, arith}
-use Rattle.heap.specs.Meaning.{Meaning, Lawful, Covered}
+use Rattle.std.proofs.Common.{◌≡◌, ℕ, ◌+◌, ◌<◌, sym, subst, arith}
+use Rattle.heap.specs.Meaning.{Meaning, Covered}
 use Rattle.layers.specs.Affixes.{affix_live, Marked}
 use Rattle.layers.specs.Affixed.{head_inside, tail_inside, tail_ends}
 use Rattle.layers.proofs.affix.Affix.whole.Goals as goal
@@ -16,8 +16,8 @@ marked-requires g c =
     let t = tail_ends m (g.H.Meant.lawful s) a h in
     (omega arith, ∣ head_inside m a h ∣₁)
 
-pub overflow-add-a : goal.overflow-add-a
-overflow-add-a g c =
+pub overflow_add-a : goal.overflow_add-a
+overflow_add-a g c =
     let s = c.args.self.now.below in
     let m = g.H.Meant.means s in
     let a = c.args.a in

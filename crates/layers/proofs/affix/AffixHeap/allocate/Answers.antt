@@ -1,32 +1,32 @@
-use Rattle.std.proofs.Common.{◌≡◌, ℕ, ◌+◌, ◌-◌, ◌≤◌, ◌∷◌, sym, ap, ◌∙◌, subst, arith}
+use Rattle.std.proofs.Common.{ℕ, ◌+◌, ◌-◌, ◌∷◌, sym, ap, ◌∙◌, subst, arith}
 use Rattle.heap.specs.Meaning.{Block}
 use Rattle.heap.specs.Histories.{History, granted}
 use Rattle.layers.specs.Affixes.{affix_offer, sent_affixed}
 use Rattle.layers.specs.Affixed.{asked, marked_granted, marked_whole, marked_offer, marked_sent}
 use Rattle.layers.proofs.affix.AffixHeap.allocate.Goals as goal
 
-pub overflow-add-start : goal.overflow-add-start
-overflow-add-start g c = let e = (asked (g.H.Meant.means c.args.self.now.below) (g.H.Meant.lawful c.args.self.now.below) c.args.n c.in-ok-n.n c.admit.result c.allocate.result c.hand-up.result (c.in-ok-start.start, c.in-ok-start.length) c.admit.ensures c.in-ok-n.was c.allocate.ensures.answer c.hand-up.ensures c.in-ok-start.was).ends in omega arith
+pub overflow_add-start : goal.overflow_add-start
+overflow_add-start g c = let e = (asked (g.H.Meant.means c.args.self.now.below) (g.H.Meant.lawful c.args.self.now.below) c.args.n c.in_ok-n.n c.admit.result c.allocate.result c.hand_up.result (c.in_ok-start.start, c.in_ok-start.length) c.admit.ensures c.in_ok-n.was c.allocate.ensures.answer c.hand_up.ensures c.in_ok-start.was).ends in omega arith
 
-pub overflow-sub-start : goal.overflow-sub-start
-overflow-sub-start g c = let l = (asked (g.H.Meant.means c.args.self.now.below) (g.H.Meant.lawful c.args.self.now.below) c.args.n c.in-ok-n.n c.admit.result c.allocate.result c.hand-up.result (c.in-ok-start.start, c.in-ok-start.length) c.admit.ensures c.in-ok-n.was c.allocate.ensures.answer c.hand-up.ensures c.in-ok-start.was).long in omega arith
+pub overflow_sub-start : goal.overflow_sub-start
+overflow_sub-start g c = let l = (asked (g.H.Meant.means c.args.self.now.below) (g.H.Meant.lawful c.args.self.now.below) c.args.n c.in_ok-n.n c.admit.result c.allocate.result c.hand_up.result (c.in_ok-start.start, c.in_ok-start.length) c.admit.ensures c.in_ok-n.was c.allocate.ensures.answer c.hand_up.ensures c.in_ok-start.was).long in omega arith
 
-pub overflow-add-result : goal.overflow-add-result
-overflow-add-result g c = let e = (asked (g.H.Meant.means c.args.self.now.below) (g.H.Meant.lawful c.args.self.now.below) c.args.n c.in-ok-n.n c.admit.result c.allocate.result c.hand-up.result (c.in-ok-start.start, c.in-ok-start.length) c.admit.ensures c.in-ok-n.was c.allocate.ensures.answer c.hand-up.ensures c.in-ok-start.was).ends in let l = (asked (g.H.Meant.means c.args.self.now.below) (g.H.Meant.lawful c.args.self.now.below) c.args.n c.in-ok-n.n c.admit.result c.allocate.result c.hand-up.result (c.in-ok-start.start, c.in-ok-start.length) c.admit.ensures c.in-ok-n.was c.allocate.ensures.answer c.hand-up.ensures c.in-ok-start.was).long in omega arith
+pub overflow_add-result : goal.overflow_add-result
+overflow_add-result g c = let e = (asked (g.H.Meant.means c.args.self.now.below) (g.H.Meant.lawful c.args.self.now.below) c.args.n c.in_ok-n.n c.admit.result c.allocate.result c.hand_up.result (c.in_ok-start.start, c.in_ok-start.length) c.admit.ensures c.in_ok-n.was c.allocate.ensures.answer c.hand_up.ensures c.in_ok-start.was).ends in let l = (asked (g.H.Meant.means c.args.self.now.below) (g.H.Meant.lawful c.args.self.now.below) c.args.n c.in_ok-n.n c.admit.result c.allocate.result c.hand_up.result (c.in_ok-start.start, c.in_ok-start.length) c.admit.ensures c.in_ok-n.was c.allocate.ensures.answer c.hand_up.ensures c.in_ok-start.was).long in omega arith
 
-pub overflow-sub-result : goal.overflow-sub-result
-overflow-sub-result g c = let l = (asked (g.H.Meant.means c.args.self.now.below) (g.H.Meant.lawful c.args.self.now.below) c.args.n c.in-ok-n.n c.admit.result c.allocate.result c.hand-up.result (c.in-ok-start.start, c.in-ok-start.length) c.admit.ensures c.in-ok-n.was c.allocate.ensures.answer c.hand-up.ensures c.in-ok-start.was).long in omega arith
+pub overflow_sub-result : goal.overflow_sub-result
+overflow_sub-result g c = let l = (asked (g.H.Meant.means c.args.self.now.below) (g.H.Meant.lawful c.args.self.now.below) c.args.n c.in_ok-n.n c.admit.result c.allocate.result c.hand_up.result (c.in_ok-start.start, c.in_ok-start.length) c.admit.ensures c.in_ok-n.was c.allocate.ensures.answer c.hand_up.ensures c.in_ok-start.was).long in omega arith
 
 pub returns : goal.returns
 returns g c =
-    let d = (asked (g.H.Meant.means c.args.self.now.below) (g.H.Meant.lawful c.args.self.now.below) c.args.n c.in-ok-n.n c.admit.result c.allocate.result c.hand-up.result (c.in-ok-start.start, c.in-ok-start.length) c.admit.ensures c.in-ok-n.was c.allocate.ensures.answer c.hand-up.ensures c.in-ok-start.was) in
+    let d = (asked (g.H.Meant.means c.args.self.now.below) (g.H.Meant.lawful c.args.self.now.below) c.args.n c.in_ok-n.n c.admit.result c.allocate.result c.hand_up.result (c.in_ok-start.start, c.in_ok-start.length) c.admit.ensures c.in_ok-n.was c.allocate.ensures.answer c.hand_up.ensures c.in_ok-start.was) in
     let w = g.H.Meant.lawful c.args.self.now.below in
     let m = g.H.Meant.means c.args.self.now.below in
     let m₁ = g.H.Meant.means c.allocate.new.self in
     let m₂ = g.H.Meant.means c.fill.new.self in
     let m₃ = g.H.Meant.means c.fill-2.new.self in
-    let n = c.in-ok-n.n in
-    let b : Block = (c.in-ok-start.start, c.in-ok-start.length) in
+    let n = c.in_ok-n.n in
+    let b : Block = (c.in_ok-start.start, c.in_ok-start.length) in
     let e = c.allocate.ensures in
     let e₁ = c.fill.ensures in
     let e₂ = c.fill-2.ensures in

@@ -1,4 +1,4 @@
-use Rattle.std.proofs.Common.{◌≡◌, ℕ, ◌<◌, Ok, Err, sym, ◌∙◌}
+use Rattle.std.proofs.Common.{◌≡◌, ◌<◌, Ok, Err, sym, ◌∙◌}
 use Rattle.heap.specs.declared.fault.Kind.TheVariants.{Affix as AffixK}
 use Rattle.heap.specs.Meaning.{Covered}
 use Rattle.heap.specs.Checks.{checked_fill}
@@ -18,28 +18,28 @@ returns g c =
     let a = c.args.a in
     let n = c.args.c in
     let v = affixed_lawful m w in
-    let ok : checked_fill AffixK c.inner.result a n ≡ Ok tt = sym c.check-fill.ensures ∙ c.in-ok-check-fill.was in
+    let ok : checked_fill AffixK c.inner.result a n ≡ Ok tt = sym c.check_fill.ensures ∙ c.in_ok-check_fill.was in
     let some : 0 < n = fill_some AffixK (affixed m) v a c.inner.result c.inner.ensures n ok in
     let i : Covered (affix_live m.live) a n = fill_covered AffixK (affixed m) v a c.inner.result c.inner.ensures n ok in
     let e = c.fill.ensures in
     let r = c.fill.result in
     record {
-      answer = rw c.make-own.ensures (own-fill AffixK m.kind (affix_live m.live) m.live a a n (covered_outer m.live a n some) (λ _. i) r e.answer);
-      after = rw c.make-own.ensures (affixed_fills m _ w a n c.args.b r some i e.after);
-      kept = λ from h k. rw (c.make-own.ensures, own_after_fill) (record {
+      answer = rw c.make_own.ensures (own-fill AffixK m.kind (affix_live m.live) m.live a a n (covered_outer m.live a n some) (λ _. i) r e.answer);
+      after = rw c.make_own.ensures (affixed_fills m _ w a n c.args.b r some i e.after);
+      kept = λ from h k. rw (c.make_own.ensures, own_after_fill) (record {
         whole = λ q. whole_fills m _ w a n c.args.b r some i e.after (k.whole q);
         below = rw sent_fill (e.kept from.below _ k.below);
       });
     }
 
-pub returns-in-err-check-fill : goal.returns-in-err-check-fill
-returns-in-err-check-fill g c =
+pub returns-in_err-check_fill : goal.returns-in_err-check_fill
+returns-in_err-check_fill g c =
     let s = c.args.self.now.below in
     let m = g.H.Meant.means s in
-    let p = err_from_is_err_and c.from-residual.result c.from-residual.ensures.1 in
-    let f = c.in-err-check-fill.field-0.0 in
+    let p = err_from_is_err_and c.from_residual.result c.from_residual.ensures.1 in
+    let f = c.in_err-check_fill.field-0.0 in
     rw (p.1, p.2) (record {
-      answer = fill_checked AffixK (affixed m) (affixed_lawful m (g.H.Meant.lawful s)) c.args.a c.inner.result c.inner.ensures c.args.c (Err f) (sym c.in-err-check-fill.was ∙ c.check-fill.ensures);
+      answer = fill_checked AffixK (affixed m) (affixed_lawful m (g.H.Meant.lawful s)) c.args.a c.inner.result c.inner.ensures c.args.c (Err f) (sym c.in_err-check_fill.was ∙ c.check_fill.ensures);
       after = unchanged (affixed m);
       kept = λ from h k. k;
     })

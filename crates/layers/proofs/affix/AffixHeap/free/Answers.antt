@@ -1,4 +1,4 @@
-use Rattle.std.proofs.Common.{◌≡◌, ℕ, ◌<◌, Ok, Err, sym, ◌∙◌}
+use Rattle.std.proofs.Common.{◌<◌, Ok, Err, sym, ◌∙◌}
 use Rattle.heap.specs.declared.fault.Kind.TheVariants.{Affix as AffixK}
 use Rattle.heap.proofs.Lawful.{unchanged}
 use Rattle.heap.proofs.Checked.{free_checked}
@@ -15,25 +15,25 @@ returns g c =
     let a = c.args.a in
     let e = c.free.ensures in
     let r = c.free.result in
-    let h : 0 < affix_live m.live a = free_checked AffixK (affixed m) (affixed_lawful m (g.H.Meant.lawful s)) a c.inner.result c.inner.ensures (Ok tt) (sym c.in-ok-check-free.was ∙ c.check-free.ensures) in
+    let h : 0 < affix_live m.live a = free_checked AffixK (affixed m) (affixed_lawful m (g.H.Meant.lawful s)) a c.inner.result c.inner.ensures (Ok tt) (sym c.in_ok-check_free.was ∙ c.check_free.ensures) in
     let both = affixed_frees m.kind m _ a r h e.answer e.after in
     record {
-      answer = rw c.make-own.ensures both.0;
-      after = rw c.make-own.ensures both.1;
-      kept = λ from q k. rw (c.make-own.ensures, own_after_free) (record {
+      answer = rw c.make_own.ensures both.0;
+      after = rw c.make_own.ensures both.1;
+      kept = λ from q k. rw (c.make_own.ensures, own_after_free) (record {
         whole = λ z. whole_frees m.kind m _ a r h e.after (k.whole z);
         below = rw sent_free (e.kept from.below _ k.below);
       });
     }
 
-pub returns-in-err-check-free : goal.returns-in-err-check-free
-returns-in-err-check-free g c =
+pub returns-in_err-check_free : goal.returns-in_err-check_free
+returns-in_err-check_free g c =
     let s = c.args.self.now.below in
     let m = g.H.Meant.means s in
-    let p = err_from_is_err_and c.from-residual.result c.from-residual.ensures.1 in
-    let f = c.in-err-check-free.field-0.0 in
+    let p = err_from_is_err_and c.from_residual.result c.from_residual.ensures.1 in
+    let f = c.in_err-check_free.field-0.0 in
     rw (p.1, p.2) (record {
-      answer = free_checked AffixK (affixed m) (affixed_lawful m (g.H.Meant.lawful s)) c.args.a c.inner.result c.inner.ensures (Err f) (sym c.in-err-check-free.was ∙ c.check-free.ensures);
+      answer = free_checked AffixK (affixed m) (affixed_lawful m (g.H.Meant.lawful s)) c.args.a c.inner.result c.inner.ensures (Err f) (sym c.in_err-check_free.was ∙ c.check_free.ensures);
       after = unchanged (affixed m);
       kept = λ from h k. k;
     })

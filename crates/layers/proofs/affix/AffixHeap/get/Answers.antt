@@ -12,5 +12,5 @@ returns g c =
     let m = g.H.Meant.means s in
     let a = c.args.a in
     let t = get_checked AffixK (affixed m) (affixed_lawful m (g.H.Meant.lawful s)) a c.inner.result c.inner.ensures in
-    let i = t.accepted (sym c.check-get.ensures ∙ c.in-ok-check-get.was) in
-    rw c.make-own.ensures (own_get AffixK m.kind (affix_live m.live) m.live a a m.byte m.byte c.get.result (covered_outer m.live a 1 (omega arith)) (λ _. i) refl c.get.ensures)
+    let i = t.accepted (sym c.check_get.ensures ∙ c.in_ok-check_get.was) in
+    rw c.make_own.ensures (own_get AffixK m.kind (affix_live m.live) m.live a a m.byte m.byte c.get.result (covered_outer m.live a 1 (omega arith)) (λ _. i) refl c.get.ensures)

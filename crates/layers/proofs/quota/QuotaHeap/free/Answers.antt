@@ -12,9 +12,9 @@ returns g c =
     let m = g.H.Meant.means c.args.self.now.below in
     let w = g.H.Meant.lawful c.args.self.now.below in
     record {
-      answer = rw c.make-own.ensures (own_free QuotaK m.kind m.live m.live a a r refl e.answer);
-      after = rw c.make-own.ensures (rationed_frees _ _ _ _ _ _ e.limit a r e.account e.after);
-      kept = λ from h k. rw (c.make-own.ensures, own_after_free) (record {
+      answer = rw c.make_own.ensures (own_free QuotaK m.kind m.live m.live a a r refl e.answer);
+      after = rw c.make_own.ensures (rationed_frees _ _ _ _ _ _ e.limit a r e.account e.after);
+      kept = λ from h k. rw (c.make_own.ensures, own_after_free) (record {
         limit = e.limit ∙ k.limit;
         paid = λ p. paid_freed _ _ _ _ _ _ e.limit a r w e.answer e.account e.after (k.paid p);
         below = e.kept from.below h k.below;
