@@ -5,7 +5,7 @@ use Rattle.std.proofs.lemmas.Bool.{both_ways, cond-true, cond-false, eq-eqb, ne_
 use Rattle.bitmap.specs.Words.{inside}
 use Rattle.bitmap.specs.Cells.{Map, starts, goes_on, follow, Runs, bitmap_live, Fits, Marked, Unmarked}
 use Rattle.bitmap.proofs.Flips.{inside_yes, inside_before, inside_past}
-use Rattle.bitmap.proofs.Rows.{follow_runs, live_is, live_none, live_odd, starts_yes, starts_free, starts_inner, on_yes, on_past, on_free, on_begun, on_used, on_or_starts}
+use Rattle.bitmap.specs.Rows.{follow_runs, live_is, live_none, live_odd, starts_yes, starts_free, starts_inner, on_yes, on_past, on_free, on_begun, on_used, on_or_starts}
 
 module _ (u f u' f' : Map) (cells : ℕ) where
   same_live : (p : ℕ) → starts u' f' cells p ≡ starts u f cells p → ((e : ℕ) → starts u f cells p ≡ true → Runs (goes_on u f cells) (p + 1) e → Runs (goes_on u' f' cells) (p + 1) e)

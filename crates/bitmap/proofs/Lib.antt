@@ -1,5 +1,3 @@
 pub mod Flips
-pub mod Rows
-pub mod Laws
 pub mod Changes
 pub mod Calls

@@ -5,6 +5,8 @@ ghost use Rattle.std.specs.Prelude.{◌≡◌, ℕ, false};
 ghost use Rattle.heap.specs.Meaning.{NothingLive};
 ghost use Rattle.bitmap.specs.Words.{bit_in};
 ghost use Rattle.bitmap.specs.Cells.{bitmap_means, BitmapKeeps};
+ghost use Rattle.bitmap.specs.Laws.{bitmap_lawful};
+ghost use Rattle.bitmap.specs.Keeping.{bitmap_begins};
 
 mod blocks;
 mod maps;
@@ -42,6 +44,10 @@ impl<'r> Meant for Bitmap<'r> {
     ghost means = { λ s. bitmap_means s.region.now (bit_in s.maps.used) (bit_in s.maps.first) };
 
     ghost keeps = { λ from h s. BitmapKeeps from.region.now (bit_in from.maps.used) (bit_in from.maps.first) h s.region.now (bit_in s.maps.used) (bit_in s.maps.first) };
+
+    ghost lawful = { λ s. bitmap_lawful s.region.now (bit_in s.maps.used) (bit_in s.maps.first) };
+
+    ghost begins = { λ s. bitmap_begins s.region.now (bit_in s.maps.used) (bit_in s.maps.first) };
 }
 
 impl<'r> Heap for Bitmap<'r> {

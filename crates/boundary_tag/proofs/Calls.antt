@@ -8,12 +8,13 @@ use Rattle.heap.specs.Meaning.{Block, Covered, Filled, Allocates, Frees, Fills, 
 use Rattle.heap.specs.Histories.{History, filled, after_allocate, after_free, after_fill}
 use Rattle.region.specs.Bytes.{span_of, Painted}
 use Rattle.boundary_tag.specs.Chunks.{Chunk, chunk_at, tag_span, walk, chunks, live_in, end_in, chunks_granted, chunks_freed, chunks_after, one_free, Settled, tag_offer, tag_means, TagKept, TagKeeps, Written, Grants, Releases, Paint, Paints, Fresh}
-use Rattle.boundary_tag.proofs.Walks.{chunk_none, chunk_good, chunk_kept, walk_end, walk_step}
-use Rattle.boundary_tag.proofs.Lists.{live_cut}
+use Rattle.boundary_tag.specs.Walks.{chunk_none, chunk_good, chunk_kept, walk_end, walk_step}
+use Rattle.boundary_tag.specs.Lists.{live_cut}
 use Rattle.boundary_tag.proofs.Places.{rewritten}
-use Rattle.boundary_tag.proofs.Laws.{span_eighth, covered_span}
+use Rattle.boundary_tag.specs.Keeping.{one_free_some, one_live}
+use Rattle.boundary_tag.specs.Laws.{span_eighth, covered_span}
 use Rattle.boundary_tag.proofs.Carving.{at_reach, at_chunk, at_rest, at_shape}
-use Rattle.std.proofs.lemmas.Bool.{cond-true, cond-false, ne_eqb, le-leb, lt-leb, cases_eq, cases_lt}
+use Rattle.std.proofs.lemmas.Bool.{cond-true, cond-false, le-leb, lt-leb, cases_lt}
 
 -- a new heap
 at_least : (s : ℕ) → (cond (leb 24 s) s 0 ≡ 0 → ⊥) → 24 ≤ cond (leb 24 s) s 0
@@ -29,9 +30,6 @@ span_some n h = at_least (span_of n) h
 
 pub start_none : (xs : List ℕ) → tag_span (length xs) ≡ 0 → Fresh xs xs
 start_none xs e = record { long = refl; rest = λ x l. refl; list = walk_end xs (tag_span (length xs)) 0 (chunk_none xs (tag_span (length xs)) 0 (omega arith)) ∙ sym (ap one_free e) }
-
-one_free_some : (n : ℕ) → (n ≡ 0 → ⊥) → one_free n ≡ (n, 0) ∷ []
-one_free_some n h = cond-false (eqb n 0) [] ((n, 0) ∷ []) (ne_eqb n 0 h)
 
 pub start_one : (xs ys : List ℕ) (span : ℕ) → span ≡ tag_span (length xs) → (span ≡ 0 → ⊥) → Written 0 span 0 xs ys → Fresh xs ys
 start_one xs ys span e h w =
@@ -51,33 +49,8 @@ start_one xs ys span e h w =
           ∙ ap one_free (sym same);
     }
 
-one_live : (n a : ℕ) → live_in (one_free n) 0 a ≡ 0
-one_live n a =
-    ⊎_elim (λ (q : n ≡ 0). ap (λ (cs : List Chunk). live_in cs 0 a) (ap one_free q)) (λ (q : n ≡ 0 → ⊥). ap (λ (cs : List Chunk). live_in cs 0 a) (one_free_some n q) ∙ none) (cases_eq n 0)
-  where
-    none : live_in ((n, 0) ∷ []) 0 a ≡ 0
-    none = grind arith
-
-one_end : (n : ℕ) → end_in (one_free n) 0 ≡ n
-one_end n = ⊎_elim (λ (q : n ≡ 0). ap (λ (z : ℕ). end_in (one_free z) 0) q ∙ sym q) (λ (q : n ≡ 0 → ⊥). ap (λ (cs : List Chunk). end_in cs 0) (one_free_some n q) ∙ (let z : 0 + n ≡ n = omega arith in z)) (cases_eq n 0)
-
-one_settled : (n : ℕ) → Settled (one_free n)
-one_settled n = ⊎_elim (λ (q : n ≡ 0). subst Settled (sym (ap one_free q)) tt) (λ (q : n ≡ 0 → ⊥). subst Settled (sym (one_free_some n q)) (tt, tt)) (cases_eq n 0)
-
 pub fresh_none : (xs ys : List ℕ) → Fresh xs ys → NothingLive (tag_means ys)
 fresh_none xs ys f a = ap (λ (cs : List Chunk). live_in cs 0 a) f.list ∙ one_live (tag_span (length ys)) a
-
-pub tag_begins : (xs : List ℕ) → TagKeeps xs [] xs
-tag_begins xs = record {
-  long = refl;
-  rest = λ x l. refl;
-  kept = λ e. record {
-    live = λ a. ap (λ (cs : List Chunk). live_in cs 0 a) e ∙ one_live (tag_span (length xs)) a;
-    list = e;
-    tiled = ap (λ (cs : List Chunk). end_in cs 0) e ∙ one_end (tag_span (length xs));
-    settled = subst Settled (sym e) (one_settled (tag_span (length xs)));
-  };
-}
 
 same_region : (xs ys : List ℕ) → ys ≡ xs → Same (tag_means xs) (tag_means ys)
 same_region xs ys e = subst (λ (z : List ℕ). Same (tag_means xs) (tag_means z)) (sym e) (record { kind = refl; span = refl; live = λ a. refl; byte = λ a x i. refl }, λ n. refl)

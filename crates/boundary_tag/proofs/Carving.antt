@@ -3,11 +3,11 @@ use Rattle.std.proofs.Common.{◌≡◌, ℕ, ◌+◌, ◌-◌, ◌%◌, ◌<◌
 use Rattle.heap.specs.Meaning.{Block}
 use Rattle.region.specs.Bytes.{Painted}
 use Rattle.boundary_tag.specs.Chunks.{Chunk, Shape, tag_at, chunk_at, tag_span, walk, chunks, live_in, end_in, split, chunks_granted, Settled, Written, Carved, Grant}
-use Rattle.boundary_tag.proofs.Ends.{tag_same}
-use Rattle.boundary_tag.proofs.Walks.{Laid, laid_walk, shape_of, chunk_good, ends_of}
-use Rattle.boundary_tag.proofs.Lists.{end_more, laid_before, laid_behind, granted_at, split_one, split_two, live_after, live_split, end_split, settled_after, settled_split, beside_split, live_around}
+use Rattle.boundary_tag.specs.Ends.{tag_same}
+use Rattle.boundary_tag.specs.Walks.{Laid, laid_walk, shape_of, chunk_good, ends_of}
+use Rattle.boundary_tag.specs.Lists.{end_more, laid_before, laid_behind, granted_at, split_one, split_two, live_after, live_split, end_split, settled_after, settled_split, beside_split, live_around}
 use Rattle.boundary_tag.proofs.Places.{Reach, walk_first, walk_reach, rewritten}
-use Rattle.boundary_tag.proofs.Laws.{Offered}
+use Rattle.boundary_tag.specs.Laws.{Offered}
 use Rattle.std.proofs.lemmas.Bool.{cases_lt}
 
 -- a granted chunk as it is written: the whole of the free one, or a part

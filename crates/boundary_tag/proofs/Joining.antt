@@ -1,8 +1,8 @@
 -- A free: a live chunk in its place is made free, and joined with a free one directly before and directly behind.
 use Rattle.std.proofs.Common.{◌≡◌, ℕ, ◌+◌, ◌-◌, ◌<◌, ◌≤◌, cond, eqb, leb, List, [], ◌∷◌, ◌++◌, length, Some, sym, refl, ap, ◌∙◌, subst, inl, ⊎_elim, arith}
 use Rattle.boundary_tag.specs.Chunks.{Chunk, Shape, tag_at, chunk_at, tag_span, walk, chunks, live_in, end_in, free_length, past_free, chunks_freed, Settled, low_length, Written, Release}
-use Rattle.boundary_tag.proofs.Walks.{Laid, laid_walk, live_here, live_other, live_low, chunk_good, ends_of}
-use Rattle.boundary_tag.proofs.Lists.{Quiet, Ending, live_cut, last_cases, more_more, end_more, laid_before, live_after, live_around, free_here, live_first, end_past, live_past, laid_past, settled_quiet, settled_join, settled_before, freed_quiet, freed_before}
+use Rattle.boundary_tag.specs.Walks.{Laid, laid_walk, live_here, live_other, live_low, chunk_good, ends_of}
+use Rattle.boundary_tag.specs.Lists.{Quiet, Ending, live_cut, last_cases, more_more, end_more, laid_before, live_after, live_around, free_here, live_first, end_past, live_past, laid_past, settled_quiet, settled_join, settled_before, freed_quiet, freed_before}
 use Rattle.boundary_tag.proofs.Places.{Reach, walk_first, rewritten}
 use Rattle.boundary_tag.proofs.Carving.{at_reach, at_chunk, at_rest, at_tag, at_shape, at_laid, at_before, at_behind}
 use Rattle.std.proofs.lemmas.Bool.{cond-true, cond-false, eq-eqb, ne_eqb, le-leb, cases_eq}

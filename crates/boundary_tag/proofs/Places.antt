@@ -1,7 +1,7 @@
 -- Stretches of chunks in a region: what is read where bytes stayed, and the list once one stretch was written anew.
 use Rattle.std.proofs.Common.{◌≡◌, ℕ, ◌+◌, ◌<◌, ◌≤◌, List, [], ◌∷◌, ◌++◌, get_or, Some, None, sym, refl, ap, ◌∙◌, ⊎_elim, arith}
 use Rattle.boundary_tag.specs.Chunks.{Chunk, chunk_at, walk, end_in}
-use Rattle.boundary_tag.proofs.Walks.{option_cases, chunk_same, walk_step, walk_end, walk_from_same}
+use Rattle.boundary_tag.specs.Walks.{option_cases, chunk_same, walk_step, walk_end, walk_from_same}
 
 -- the chunks cs stand from p to q
 abbrev pub Reach : List ℕ → ℕ → ℕ → List Chunk → ℕ → Type 0

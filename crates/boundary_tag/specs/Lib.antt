@@ -1,1 +1,6 @@
 pub mod Chunks
+pub mod Ends
+pub mod Walks
+pub mod Lists
+pub mod Laws
+pub mod Keeping

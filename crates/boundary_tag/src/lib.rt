@@ -3,6 +3,8 @@
 
 ghost use Rattle.heap.specs.Meaning.{NothingLive};
 ghost use Rattle.boundary_tag.specs.Chunks.{tag_means, TagKeeps, Fresh};
+ghost use Rattle.boundary_tag.specs.Laws.{tag_lawful};
+ghost use Rattle.boundary_tag.specs.Keeping.{tag_begins};
 
 mod blocks;
 mod chunks;
@@ -33,6 +35,10 @@ impl<'r> Meant for BoundaryTag<'r> {
     ghost means = { λ s. tag_means s.region.now };
 
     ghost keeps = { λ from h s. TagKeeps from.region.now h s.region.now };
+
+    ghost lawful = { λ s. tag_lawful s.region.now };
+
+    ghost begins = { λ s. tag_begins s.region.now };
 }
 
 impl<'r> Heap for BoundaryTag<'r> {

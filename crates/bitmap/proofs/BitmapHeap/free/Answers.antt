@@ -9,8 +9,8 @@ returns c =
     let f = bit_in c.args.self.now.maps.first in
     let u' = bit_in c.release.new.maps.used in
     let f' = bit_in c.release.new.maps.first in
-    let cells = c.count-cells-cells.result in
-    let q = c.count-cells-cells.ensures in
+    let cells = c.count_cells-cells.result in
+    let q = c.count_cells-cells.ensures in
     record {
       answer = may_free xs u f u' f' c.args.a cells q c.release.result c.release.ensures;
       after = bitmap-frees xs u f u' f' c.args.a cells q c.release.result c.release.ensures;

@@ -6,7 +6,7 @@ use Rattle.heap.specs.Checks.{checked_get}
 use Rattle.heap.proofs.Checked.{Got, get_checked}
 use Rattle.bitmap.specs.Words.{bit_in}
 use Rattle.bitmap.specs.Cells.{Map, cells_of, bitmap_live, bitmap_means}
-use Rattle.bitmap.proofs.Laws.{bitmap_lawful, covered_region}
+use Rattle.bitmap.specs.Laws.{bitmap_lawful, covered_region}
 use Rattle.bitmap.proofs.Calls.{finds_at}
 use Rattle.bitmap.proofs.BitmapHeap.get.Goals as goal
 
@@ -18,7 +18,7 @@ bounds-self-a c =
     let xs = c.args.self.now.region.now in
     let u = bit_in c.args.self.now.maps.used in
     let f = bit_in c.args.self.now.maps.first in
-    let k = (tested xs u f c.count-cells.result c.args.a c.find.result c.count-cells.ensures c.find.ensures).accepted (sym c.in-ok-check-get.ensures) in
+    let k = (tested xs u f c.count_cells.result c.args.a c.find.result c.count_cells.ensures c.find.ensures).accepted (sym c.in_ok-check_get.ensures) in
     let z = covered_region xs u f c.args.a 1 (omega arith) k in
     omega arith
 
@@ -27,12 +27,12 @@ returns c =
     let xs = c.args.self.now.region.now in
     let u = bit_in c.args.self.now.maps.used in
     let f = bit_in c.args.self.now.maps.first in
-    (∣ (tested xs u f c.count-cells.result c.args.a c.find.result c.count-cells.ensures c.find.ensures).accepted (sym c.in-ok-check-get.ensures) ∣₁, refl)
+    (∣ (tested xs u f c.count_cells.result c.args.a c.find.result c.count_cells.ensures c.find.ensures).accepted (sym c.in_ok-check_get.ensures) ∣₁, refl)
 
-pub returns-in-err-check-get : goal.returns-in-err-check-get
-returns-in-err-check-get c =
+pub returns-in_err-check_get : goal.returns-in_err-check_get
+returns-in_err-check_get c =
     let xs = c.args.self.now.region.now in
     let u = bit_in c.args.self.now.maps.used in
     let f = bit_in c.args.self.now.maps.first in
-    let p = err_from_is_err_and c.from-residual.result c.from-residual.ensures.1 in
-    rw (p.1, p.2) ((tested xs u f c.count-cells.result c.args.a c.find.result c.count-cells.ensures c.find.ensures).refused c.in-err-check-get.field-0.0 (sym c.in-err-check-get.ensures))
+    let p = err_from_is_err_and c.from_residual.result c.from_residual.ensures.1 in
+    rw (p.1, p.2) ((tested xs u f c.count_cells.result c.args.a c.find.result c.count_cells.ensures c.find.ensures).refused c.in_err-check_get.field-0.0 (sym c.in_err-check_get.ensures))

@@ -6,8 +6,8 @@ use Rattle.heap.specs.Checks.{begun, checked_free}
 use Rattle.heap.proofs.Checked.{begun_is, free_checked}
 use Rattle.bitmap.specs.Words.{bit_in}
 use Rattle.bitmap.specs.Cells.{Map, bitmap_live, cells_mean, Unmarked}
-use Rattle.bitmap.proofs.Rows.{lives}
-use Rattle.bitmap.proofs.Laws.{cells_lawful}
+use Rattle.bitmap.specs.Rows.{lives}
+use Rattle.bitmap.specs.Laws.{cells_lawful}
 use Rattle.bitmap.proofs.blocks.release.Goals as goal
 
 -- a block that check_free let pass, as its length and its cells
@@ -32,23 +32,23 @@ passed cells u f a l found t small finds ok begins =
 pub unmark-requires : goal.unmark-requires
 unmark-requires c =
     let m = c.args.maps.now in
-    let p = (passed c.args.cells (bit_in m.used) (bit_in m.first) c.args.a c.begun-at.result c.find-found.result c.in-ok-check-free.field-0 c.requires c.find-found.ensures c.in-ok-check-free.ensures c.begun-at.ensures).fits in
+    let p = (passed c.args.cells (bit_in m.used) (bit_in m.first) c.args.a c.begun_at.result c.find-found.result c.in_ok-check_free.field-0 c.requires c.find-found.ensures c.in_ok-check_free.ensures c.begun_at.ensures).fits in
     omega arith
 
 pub returns : goal.returns
 returns c =
     let m = c.args.maps.now in
-    let p = passed c.args.cells (bit_in m.used) (bit_in m.first) c.args.a c.begun-at.result c.find-found.result c.in-ok-check-free.field-0 c.requires c.find-found.ensures c.in-ok-check-free.ensures c.begun-at.ensures in
+    let p = passed c.args.cells (bit_in m.used) (bit_in m.first) c.args.a c.begun_at.result c.find-found.result c.in_ok-check_free.field-0 c.requires c.find-found.ensures c.in_ok-check_free.ensures c.begun_at.ensures in
     record {
       was = p.was;
       unmarked = subst (λ (z : ℕ). Unmarked (c.args.a / 64) (z / 64) (bit_in m.used) (bit_in m.first) (bit_in c.unmark.new.self.used) (bit_in c.unmark.new.self.first)) (sym p.is) c.unmark.ensures;
     }
 
-pub returns-in-err-check-free : goal.returns-in-err-check-free
-returns-in-err-check-free c =
+pub returns-in_err-check_free : goal.returns-in_err-check_free
+returns-in_err-check_free c =
     let m = c.args.maps.now in
     let u = bit_in m.used in
     let f = bit_in m.first in
-    let p = err_from_is_err_and c.from-residual.result c.from-residual.ensures.1 in
-    let q = free_checked BitmapK (cells_mean c.args.cells (λ x. 0) u f) (cells_lawful c.args.cells (λ x. 0) u f c.requires) c.args.a c.find-found.result c.find-found.ensures (Err c.in-err-check-free.field-0.0) c.in-err-check-free.ensures in
+    let p = err_from_is_err_and c.from_residual.result c.from_residual.ensures.1 in
+    let q = free_checked BitmapK (cells_mean c.args.cells (λ x. 0) u f) (cells_lawful c.args.cells (λ x. 0) u f c.requires) c.args.a c.find-found.result c.find-found.ensures (Err c.in_err-check_free.field-0.0) c.in_err-check_free.ensures in
     rw (p.1, p.2) (q.0, q.1, refl, refl)

@@ -1,7 +1,7 @@
 use Rattle.std.proofs.Common.{◌≡◌, ℕ, Some, None, Err, Option, ap, ◌∙◌, arith}
 use Rattle.bitmap.specs.Words.{bit_in}
 use Rattle.bitmap.specs.Cells.{Map, LowestRun, lowest, placed, cells_for, bitmap_offer}
-use Rattle.bitmap.proofs.Laws.{lowest_is}
+use Rattle.bitmap.specs.Laws.{lowest_is}
 use Rattle.bitmap.proofs.blocks.room.Goals as goal
 
 found : (u f : Map) (cells n w : ℕ) (r : Option ℕ) → w ≡ cells_for n → LowestRun u f cells w r → placed n w r ≡ bitmap_offer u f cells n
@@ -10,11 +10,11 @@ found u f cells n w r e k = ap (placed n w) (lowest_is u f cells w r k) ∙ ap (
 pub returns-in-Some : goal.returns-in-Some
 returns-in-Some c =
     let m = c.args.maps.now in
-    let e = c.div-ceil-wanted.ensures in
-    found (bit_in m.used) (bit_in m.first) c.args.cells c.args.n c.div-ceil-wanted.result (Some c.in-Some.i) (omega arith) c.in-Some.ensures
+    let e = c.div_ceil-wanted.ensures in
+    found (bit_in m.used) (bit_in m.first) c.args.cells c.args.n c.div_ceil-wanted.result (Some c.in-Some.i) (omega arith) c.in-Some.ensures
 
 pub returns-in-None : goal.returns-in-None
 returns-in-None c =
     let m = c.args.maps.now in
-    let e = c.div-ceil-wanted.ensures in
-    ap Err c.new.ensures ∙ found (bit_in m.used) (bit_in m.first) c.args.cells c.args.n c.div-ceil-wanted.result None (omega arith) c.in-None.ensures
+    let e = c.div_ceil-wanted.ensures in
+    ap Err c.new.ensures ∙ found (bit_in m.used) (bit_in m.first) c.args.cells c.args.n c.div_ceil-wanted.result None (omega arith) c.in-None.ensures

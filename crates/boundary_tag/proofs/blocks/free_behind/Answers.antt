@@ -1,7 +1,7 @@
 use Rattle.std.proofs.Common.{◌+◌, sym, ap, ◌∙◌}
 use Rattle.boundary_tag.specs.Chunks.{Chunk, walk, free_length}
-use Rattle.boundary_tag.proofs.Walks.{walk_step, walk_end}
-use Rattle.boundary_tag.proofs.Lists.{free_here, live_first}
+use Rattle.boundary_tag.specs.Walks.{walk_step, walk_end}
+use Rattle.boundary_tag.specs.Lists.{free_here, live_first}
 use Rattle.boundary_tag.proofs.blocks.free_behind.Goals as goal
 
 pub returns-then-state-eq-FREE : goal.returns-then-state-eq-FREE
@@ -16,5 +16,5 @@ returns-else-state-eq-FREE c =
     let h : Chunk = (c.in-Some.length, c.in-Some.state) in
     sym (ap free_length (walk_step xs c.args.span c.args.p h (sym c.in-Some.ensures.value)) ∙ (live_first h (walk xs c.args.span (c.args.p + h.0)) c.if-state-eq-FREE.false).0)
 
-pub returns-in-default : goal.returns-in-default
-returns-in-default c = sym (ap free_length (walk_end c.args.region.now c.args.span c.args.p (sym c.in-default.ensures.value)))
+pub returns-in_default : goal.returns-in_default
+returns-in_default c = sym (ap free_length (walk_end c.args.region.now c.args.span c.args.p (sym c.in_default.ensures.value)))

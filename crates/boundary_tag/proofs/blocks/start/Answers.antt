@@ -5,8 +5,8 @@ use Rattle.boundary_tag.proofs.blocks.start.Goals as goal
 pub returns-then-span-eq0 : goal.returns-then-span-eq0
 returns-then-span-eq0 c = start_none c.args.region.now (sym c.usable-span.ensures.value ∙ c.if-span-eq0.true)
 
-pub put-chunk-requires : goal.put-chunk-requires
-put-chunk-requires c =
+pub put_chunk-requires : goal.put_chunk-requires
+put_chunk-requires c =
     let e = c.usable-span.ensures.value in
     let w = c.usable-span.ensures.within in
     let m = c.usable-span.ensures.most in
@@ -14,4 +14,4 @@ put-chunk-requires c =
     (omega arith, (omega arith, omega arith))
 
 pub returns : goal.returns
-returns c = start_one c.args.region.now c.put-chunk.new.region c.usable-span.result c.usable-span.ensures.value c.if-span-eq0.false c.put-chunk.ensures
+returns c = start_one c.args.region.now c.put_chunk.new.region c.usable-span.result c.usable-span.ensures.value c.if-span-eq0.false c.put_chunk.ensures

@@ -8,7 +8,7 @@ pub returns-then-span-lt24 : goal.returns-then-span-lt24
 unfolding tag_span
 returns-then-span-lt24 c =
     let s = span_of (length c.args.region.now) in
-    let e = c.used-span-span.ensures in
+    let e = c.used_span-span.ensures in
     let h = c.if-span-lt24.true in
     record { value = sym (cond-false (leb 24 s) s 0 (lt-leb 24 s (omega arith))); within = omega arith; most = omega arith }
 
@@ -16,6 +16,6 @@ pub returns : goal.returns
 unfolding tag_span
 returns c =
     let s = span_of (length c.args.region.now) in
-    let e = c.used-span-span.ensures in
+    let e = c.used_span-span.ensures in
     let h = c.if-span-lt24.false in
     record { value = e ∙ sym (cond-true (leb 24 s) s 0 (le-leb 24 s (omega arith))); within = omega arith; most = omega arith }

@@ -1,10 +1,10 @@
 use Rattle.std.proofs.Common.{sym, arith}
-use Rattle.boundary_tag.proofs.Walks.{chunk_none, inside_of, read_some, read_none}
+use Rattle.boundary_tag.specs.Walks.{chunk_none, inside_of, read_some, read_none}
 use Rattle.boundary_tag.proofs.chunks.chunk.Goals as goal
 
-pub returns-then-saturating-sub-lt24 : goal.returns-then-saturating-sub-lt24
-returns-then-saturating-sub-lt24 c =
-    let e = c.saturating-sub.ensures in
+pub returns-then-saturating_sub-lt24 : goal.returns-then-saturating_sub-lt24
+returns-then-saturating_sub-lt24 c =
+    let e = c.saturating_sub.ensures in
     record { value = sym (chunk_none c.args.region.now c.args.span c.args.p (omega arith)); inside = tt }
 
 pub returns-in-Some : goal.returns-in-Some

@@ -2,7 +2,7 @@ use Rattle.std.proofs.Common.{◌≡◌, ◌+◌, ◌-◌, ◌<◌, ◌≤◌, c
 use Rattle.std.proofs.lemmas.Bool.{cases_lt}
 use Rattle.heap.specs.Meaning.{In}
 use Rattle.boundary_tag.specs.Chunks.{Chunk, live_in, walk}
-use Rattle.boundary_tag.proofs.Walks.{from_step, from_live, from_none, past_step, out_past, out_before, out_free}
+use Rattle.boundary_tag.specs.Walks.{from_step, from_live, from_none, past_step, out_past, out_before, out_free}
 use Rattle.boundary_tag.proofs.chunks.find_in.Goals as goal
 use Rattle.boundary_tag.proofs.chunks.find_in.Goals.{else-state-eq-LIVE-via-then-state-eq-LIVE+then-p-a+else-a-p, else-state-eq-LIVE-via-then-state-eq-LIVE+else-p-a, else-state-eq-LIVE-via-else-state-eq-LIVE}
 
@@ -40,7 +40,7 @@ returns c b i =
     ⊎_elim
     (λ (q : b < c.loop-length.p). c.loop-length.invariant.2 b q i)
     (λ (q : c.loop-length.p ≤ b).
-    let z : live_in (walk xs span 0) 0 b ≡ 0 = from_none (live_in (walk xs span 0) 0) xs span c.loop-length.p c.loop-length.invariant.1 (sym c.in-default.ensures.value) b q in
+    let z : live_in (walk xs span 0) 0 b ≡ 0 = from_none (live_in (walk xs span 0) 0) xs span c.loop-length.p c.loop-length.invariant.1 (sym c.in_default.ensures.value) b q in
     let f = i.from in
     let l = i.below in
     omega arith)

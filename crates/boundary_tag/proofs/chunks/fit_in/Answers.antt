@@ -1,7 +1,7 @@
 use Rattle.std.proofs.Common.{◌≡◌, ◌+◌, ◌<◌, List, ◌∷◌, sym, ap, ◌∙◌, ⊎_elim}
 use Rattle.boundary_tag.specs.Chunks.{Chunk, walk, lowest_fit}
-use Rattle.boundary_tag.proofs.Walks.{walk_step, walk_end}
-use Rattle.boundary_tag.proofs.Lists.{fit_here, fit_short, fit_live}
+use Rattle.boundary_tag.specs.Walks.{walk_step, walk_end}
+use Rattle.boundary_tag.specs.Lists.{fit_here, fit_short, fit_live}
 use Rattle.boundary_tag.proofs.chunks.fit_in.Goals as goal
 
 pub returns-then-length-need : goal.returns-then-length-need
@@ -30,4 +30,4 @@ loop-length-preserved c =
     (e.inside.fits, sym (step ∙ past) ∙ c.loop-length.invariant.1)
 
 pub returns : goal.returns
-returns c = sym (ap (λ (cs : List Chunk). lowest_fit cs c.loop-length.p c.args.need) (walk_end c.args.region.now c.args.span c.loop-length.p (sym c.in-default.ensures.value))) ∙ c.loop-length.invariant.1
+returns c = sym (ap (λ (cs : List Chunk). lowest_fit cs c.loop-length.p c.args.need) (walk_end c.args.region.now c.args.span c.loop-length.p (sym c.in_default.ensures.value))) ∙ c.loop-length.invariant.1

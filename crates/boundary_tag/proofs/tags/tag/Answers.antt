@@ -1,7 +1,7 @@
 use Rattle.std.proofs.Common.{ℕ, ap, ◌∙◌, arith}
 use Rattle.region.specs.Bytes.{word_at}
 use Rattle.boundary_tag.specs.Chunks.{tag_at}
-use Rattle.boundary_tag.proofs.Ends.{pair}
+use Rattle.boundary_tag.specs.Ends.{pair}
 use Rattle.boundary_tag.proofs.tags.tag.Goals as goal
 
 pub returns : goal.returns

@@ -1,6 +1,6 @@
 use Rattle.std.proofs.Common.{sym, ◌∙◌}
 use Rattle.bitmap.specs.Words.{bit_in}
-use Rattle.bitmap.proofs.Rows.{found_block, found_none}
+use Rattle.bitmap.specs.Rows.{found_block, found_none}
 use Rattle.bitmap.proofs.maps.Maps.find.Goals as goal
 
 pub returns-then-not-begins : goal.returns-then-not-begins

@@ -1,6 +1,6 @@
 use Rattle.std.proofs.Common.{sym, ◌∙◌, arith}
 use Rattle.bitmap.specs.Words.{bit_in}
-use Rattle.bitmap.proofs.Rows.{scanned-more}
+use Rattle.bitmap.specs.Rows.{scanned-more}
 use Rattle.bitmap.proofs.maps.Maps.lowest_run.Goals as goal
 use Rattle.bitmap.proofs.maps.Maps.lowest_run.Goals.{else-run-wanted-via-then-run-wanted+else-not-continues, else-run-wanted-via-else-run-wanted}
 

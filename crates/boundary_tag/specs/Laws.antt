@@ -9,8 +9,8 @@ use Rattle.heap.specs.Roundings.{up8}
 use Rattle.heap.proofs.Offers.{admits, admits_large, admits_refused, raised_fault}
 use Rattle.region.specs.Bytes.{span_of}
 use Rattle.boundary_tag.specs.Chunks.{Chunk, Shape, tag_span, walk, chunks, live_in, end_in, lowest_fit, part_of, offer_from, tag_offer, tag_means}
-use Rattle.boundary_tag.proofs.Walks.{Found, Laid, laid_walk, laid_found, laid_apart}
-use Rattle.boundary_tag.proofs.Lists.{FitCut, fit_cut, laid_behind, laid_before, end_eighth, live_around}
+use Rattle.boundary_tag.specs.Walks.{Found, Laid, laid_walk, laid_found, laid_apart}
+use Rattle.boundary_tag.specs.Lists.{FitCut, fit_cut, laid_behind, laid_before, end_eighth, live_around}
 use Rattle.std.proofs.lemmas.Bool.{cases_cond}
 
 -- the span

@@ -10,7 +10,7 @@ use Rattle.heap.specs.Meaning.{Block, Lawful, HeapFault, HeapKind, Covered, Apar
 use Rattle.heap.proofs.Offers.{admits, admits_large, admits_refused, raised_fault}
 use Rattle.std.proofs.lemmas.Bool.{both_ways, cond-true, cond-false, cases_eq, cases_lt, cases_Bool, and_parts, and_from, le-leb, leb-true, not-true, not_from_false}
 use Rattle.bitmap.specs.Cells.{Map, cells_of, cells_for, starts, goes_on, bitmap_live, Fits, LowestRun, none_in, fits, free_run, seek, lowest, Sound, placed, bitmap_offer, cells_mean, bitmap_means}
-use Rattle.bitmap.proofs.Rows.{lives, lives_used, on_or_starts, on_used, on_first}
+use Rattle.bitmap.specs.Rows.{lives, lives_used, on_or_starts, on_used, on_first}
 
 pub none_free : (w : ℕ) (c : Map) (i : ℕ) → none_in w c i ≡ true → (x : ℕ) → i ≤ x → x < i + w → c x ≡ false
 unfolding none_in

@@ -2,7 +2,7 @@
 use Rattle.std.proofs.Common.{◌≡◌, ℕ, zero, suc, ◌+◌, ◌-◌, ◌%◌, ◌<◌, ◌≤◌, cond, eqb, ◌⊎◌, List, [], ◌∷◌, get_or, Some, None, Option, sym, refl, ap, ◌∙◌, subst, inl, inr, ⊎_elim, arith}
 use Rattle.heap.specs.Meaning.{In}
 use Rattle.boundary_tag.specs.Chunks.{Chunk, Shape, Inside, tag_at, shaped, closed, chunk_at, then_chunks, some_chunks, walk, live_in}
-use Rattle.boundary_tag.proofs.Ends.{tag_same}
+use Rattle.boundary_tag.specs.Ends.{tag_same}
 use Rattle.std.proofs.lemmas.Bool.{cond-true, cond-false, eq-eqb, ne_eqb, cases_eq, cases_lt}
 
 pub option_cases : (o : Option Chunk) → (o ≡ None) ⊎ ((c : Chunk) × (o ≡ Some c))

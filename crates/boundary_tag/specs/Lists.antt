@@ -1,7 +1,7 @@
 -- Lists of chunks: a chunk in its place, and how the list changes as a block comes or ends there.
 use Rattle.std.proofs.Common.{◌≡◌, ℕ, ◌+◌, ◌-◌, ◌%◌, ◌<◌, ◌≤◌, cond, eqb, leb, ◌⊎◌, List, [], ◌∷◌, ◌++◌, Some, Option, sym, refl, ap, ◌∙◌, subst, inl, inr, ⊎_elim, arith}
 use Rattle.boundary_tag.specs.Chunks.{Chunk, live_in, end_in, lowest_fit, split, chunks_granted, free_length, past_free, join, join_before, chunks_freed, Beside, Settled}
-use Rattle.boundary_tag.proofs.Walks.{Laid, live_other, live_here, live_low, both, is_live, at_most}
+use Rattle.boundary_tag.specs.Walks.{Laid, live_other, live_here, live_low, both, is_live, at_most}
 use Rattle.std.proofs.lemmas.Bool.{cond-true, cond-false, eq-eqb, ne_eqb, le-leb, lt-leb, cases_eq, cases_lt}
 
 -- the search for a free chunk, one step
