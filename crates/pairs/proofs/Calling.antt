@@ -8,9 +8,9 @@ use Rattle.heap.specs.Faults.{raised, up, own, and_then}
 use Rattle.heap.specs.Checks.{admitted}
 use Rattle.heap.specs.Meaning.{Meaning, Block, Lawful, In, Same, SameOffers, MayFill, Allocates, Fills}
 use Rattle.heap.proofs.Lawful.{offered_below}
-use Rattle.heap.proofs.Offers.{and_then_same, admitted-same, up_ok}
+use Rattle.heap.proofs.Offers.{and_then_same, admitted_same, up_ok}
 use Rattle.pairs.specs.Pairs.{both_fit, pair_span, pair_byte, checked_open, first_offer, second_offer, Choice, by_refusal, pair_offer, paired}
-use Rattle.pairs.specs.Shares.{low, high, side_same, set-low, frame}
+use Rattle.pairs.specs.Shares.{low, high, side_same, set_low, frame}
 use Rattle.pairs.specs.Paired.{bounded}
 use Rattle.std.proofs.lemmas.Bool.{leb-true}
 use native.Mathlib.Nat.{ℕ_set}
@@ -19,7 +19,7 @@ use native.Mathlib.Nat.{ℕ_set}
 pub chosen : (k : Kind) (choose : Choice) (m₁ m₂ : Meaning) (n q : ℕ) → admitted 32768 k n ≡ Ok q → pair_offer k choose m₁ m₂ n ≡ choose n (first_offer m₁ n) (second_offer k m₁ m₂ n)
 chosen k choose m₁ m₂ n q e =
     ap (λ (z : Result ℕ Fault). and_then z (λ p. choose p (first_offer m₁ p) (second_offer k m₁ m₂ p))) e
-    ∙ ap (λ (p : ℕ). choose p (first_offer m₁ p) (second_offer k m₁ m₂ p)) (admitted-same 32768 k n q e)
+    ∙ ap (λ (p : ℕ). choose p (first_offer m₁ p) (second_offer k m₁ m₂ p)) (admitted_same 32768 k n q e)
 
 -- where the test passes, the second is open
 opened : (o : Bool) (k : Kind) (n : ℕ) → ◌≡◌ {A = Result (Unit {0}) Fault} (cond o (Ok tt) (Err (raised Shut k n))) (Ok tt) → o ≡ true
@@ -34,8 +34,8 @@ shown_fits k m₁ m₂ w n t r r' b et eo er eu eb =
     omega arith
 
 module _ (k : Kind) (choose : Choice) (m₁ m₁' m₂ m₂' : Meaning) (es : m₁'.span ≡ m₁.span) (et : m₂'.span ≡ m₂.span) where
-  same-fit : both_fit m₁'.span m₂'.span ≡ both_fit m₁.span m₂.span
-  same-fit = cc
+  same_fit : both_fit m₁'.span m₂'.span ≡ both_fit m₁.span m₂.span
+  same_fit = cc
 
   same_span : pair_span m₁' m₂' ≡ pair_span m₁ m₂
   same_span = cc
@@ -49,7 +49,7 @@ module _ (k : Kind) (choose : Choice) (m₁ m₁' m₂ : Meaning) (w : Lawful m�
   same_first : Same m₁ m₁' → Same (paired k choose m₁ m₂) (paired k choose m₁' m₂)
   same_first s =
       let es = s.0.span in
-      let eo = same-fit k choose m₁ m₁' m₂ m₂ es refl in (
+      let eo = same_fit k choose m₁ m₁' m₂ m₂ es refl in (
         record {
           kind = refl;
           span = same_span k choose m₁ m₁' m₂ m₂ es refl;
@@ -59,23 +59,23 @@ module _ (k : Kind) (choose : Choice) (m₁ m₁' m₂ : Meaning) (w : Lawful m�
         same_offers k choose m₁ m₁' m₂ m₂ es refl s.1 (λ n. refl),
       )
 
-  pub granted-first : (r : Result Block Fault) → ((b : Block) → r ≡ Ok b → b.0 + b.1 ≤ m₁.span) → ((b : Block) → r ≡ Ok b → b.0 < m₁.span) → Allocates m₁ m₁' r → Allocates (paired k choose m₁ m₂) (paired k choose m₁' m₂) (up r)
-  granted-first (Ok b) ends below s =
+  pub granted_first : (r : Result Block Fault) → ((b : Block) → r ≡ Ok b → b.0 + b.1 ≤ m₁.span) → ((b : Block) → r ≡ Ok b → b.0 < m₁.span) → Allocates m₁ m₁' r → Allocates (paired k choose m₁ m₂) (paired k choose m₁' m₂) (up r)
+  granted_first (Ok b) ends below s =
       let es = s.span in
-      let eo = same-fit k choose m₁ m₁' m₂ m₂ es refl in
+      let eo = same_fit k choose m₁ m₁' m₂ m₂ es refl in
       record {
         kind = refl;
         span = same_span k choose m₁ m₁' m₂ m₂ es refl;
-        live = set-low m₁.span m₁'.span _ _ es eo m₁.live m₁'.live m₂.live m₂.live b.0 b.1 (below b refl) s.live (λ x. refl);
+        live = set_low m₁.span m₁'.span _ _ es eo m₁.live m₁'.live m₂.live m₂.live b.0 b.1 (below b refl) s.live (λ x. refl);
         clear = λ x i. let t = ends b refl in let hi = i.below in low m₁'.span _ m₁'.byte m₂.byte x (omega arith) ∙ s.clear x i;
         byte = λ a x i. frame m₁.span m₁'.span _ _ (λ _. Unit {0}) m₁.live m₂.live m₁.byte m₁'.byte m₂.byte m₂.byte es eo (bounded m₁ w) (λ p y j _. s.byte p y j) (λ p y j _. refl) a x i tt;
       }
-  granted-first (Err f) ends below s = same_first s
+  granted_first (Err f) ends below s = same_first s
 
-  pub filled-first : (k' : Kind) (a c v : ℕ) (r : Result (Unit {0}) Fault) → MayFill k' m₁.live a c r → Fills a c v m₁ m₁' r → Fills a c v (paired k choose m₁ m₂) (paired k choose m₁' m₂) (own k a r)
-  filled-first k' a c v (Ok t) q s =
+  pub filled_first : (k' : Kind) (a c v : ℕ) (r : Result (Unit {0}) Fault) → MayFill k' m₁.live a c r → Fills a c v m₁ m₁' r → Fills a c v (paired k choose m₁ m₂) (paired k choose m₁' m₂) (own k a r)
+  filled_first k' a c v (Ok t) q s =
       let es = s.span in
-      let eo = same-fit k choose m₁ m₁' m₂ m₂ es refl in
+      let eo = same_fit k choose m₁ m₁' m₂ m₂ es refl in
       record {
         kind = refl;
         span = same_span k choose m₁ m₁' m₂ m₂ es refl;
@@ -90,13 +90,13 @@ module _ (k : Kind) (choose : Choice) (m₁ m₁' m₂ : Meaning) (w : Lawful m�
         byte = frame m₁.span m₁'.span _ _ (λ x. In a c x → ⊥) m₁.live m₂.live m₁.byte m₁'.byte m₂.byte m₂.byte es eo (bounded m₁ w) s.byte (λ p y j _. refl);
         offers = same_offers k choose m₁ m₁' m₂ m₂ es refl s.offers (λ n. refl);
       }
-  filled-first k' a c v (Err f) q s = same_first s
+  filled_first k' a c v (Err f) q s = same_first s
 
 module _ (k : Kind) (choose : Choice) (m₁ m₂ m₂' : Meaning) (w : Lawful m₁) where
   same_second : Same m₂ m₂' → Same (paired k choose m₁ m₂) (paired k choose m₁ m₂')
   same_second s =
       let et = s.0.span in
-      let eo = same-fit k choose m₁ m₁ m₂ m₂' refl et in (
+      let eo = same_fit k choose m₁ m₁ m₂ m₂' refl et in (
         record {
           kind = refl;
           span = same_span k choose m₁ m₁ m₂ m₂' refl et;
@@ -106,10 +106,10 @@ module _ (k : Kind) (choose : Choice) (m₁ m₂ m₂' : Meaning) (w : Lawful m�
         same_offers k choose m₁ m₁ m₂ m₂' refl et (λ n. refl) s.1,
       )
 
-  pub filled-second : (a c v : ℕ) (r : Result (Unit {0}) Fault) → m₁.span ≤ a → both_fit m₁.span m₂.span ≡ true → Fills (a - m₁.span) c v m₂ m₂' r → Fills a c v (paired k choose m₁ m₂) (paired k choose m₁ m₂') (own k a r)
-  filled-second a c v (Ok t) l p s =
+  pub filled_second : (a c v : ℕ) (r : Result (Unit {0}) Fault) → m₁.span ≤ a → both_fit m₁.span m₂.span ≡ true → Fills (a - m₁.span) c v m₂ m₂' r → Fills a c v (paired k choose m₁ m₂) (paired k choose m₁ m₂') (own k a r)
+  filled_second a c v (Ok t) l p s =
       let et = s.span in
-      let eo = same-fit k choose m₁ m₁ m₂ m₂' refl et in
+      let eo = same_fit k choose m₁ m₁ m₂ m₂' refl et in
       record {
         kind = refl;
         span = same_span k choose m₁ m₁ m₂ m₂' refl et;
@@ -122,7 +122,7 @@ module _ (k : Kind) (choose : Choice) (m₁ m₂ m₂' : Meaning) (w : Lawful m�
             (λ b y j out. s.byte b y j (λ i. let lo = i.from in let hi = i.below in out (record { from = omega arith; below = omega arith })));
         offers = same_offers k choose m₁ m₁ m₂ m₂' refl et (λ n. refl) s.offers;
       }
-  filled-second a c v (Err f) l p s = same_second s
+  filled_second a c v (Err f) l p s = same_second s
 
 -- an allocate after a call that changed nothing
 pub then_allocates : (m m' m'' : Meaning) (r : Result Block Fault) → Same m m' → Allocates m' m'' r → Allocates m m'' r

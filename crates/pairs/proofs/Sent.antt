@@ -11,33 +11,33 @@ use Rattle.std.proofs.lemmas.Bool.{cond-true, cond-false, lt-ltb, le-ltb}
 
 -- a fill for an address in the first's share
 module _ (s a : ℕ) (l : a < s) (h : History) where
-  pub fill-first : (c v : ℕ) (r : Result (Unit {0}) Fault) → sent_first s (after_fill a c v r h) ≡ after_fill a c v r (sent_first s h)
-  fill-first c v (Ok t) = cond-true (ltb a s) (filled a c v ∷ sent_first s h) (sent_first s h) (lt-ltb a s l)
-  fill-first c v (Err f) = refl
+  pub fill_first : (c v : ℕ) (r : Result (Unit {0}) Fault) → sent_first s (after_fill a c v r h) ≡ after_fill a c v r (sent_first s h)
+  fill_first c v (Ok t) = cond-true (ltb a s) (filled a c v ∷ sent_first s h) (sent_first s h) (lt-ltb a s l)
+  fill_first c v (Err f) = refl
 
-  pub fill-not-second : (c v : ℕ) (r : Result (Unit {0}) Fault) → sent_second s (after_fill a c v r h) ≡ sent_second s h
-  fill-not-second c v (Ok t) = cond-true (ltb a s) (sent_second s h) (filled (a - s) c v ∷ sent_second s h) (lt-ltb a s l)
-  fill-not-second c v (Err f) = refl
+  pub fill_not_second : (c v : ℕ) (r : Result (Unit {0}) Fault) → sent_second s (after_fill a c v r h) ≡ sent_second s h
+  fill_not_second c v (Ok t) = cond-true (ltb a s) (sent_second s h) (filled (a - s) c v ∷ sent_second s h) (lt-ltb a s l)
+  fill_not_second c v (Err f) = refl
 
 -- a fill for an address from the first's span on
 module _ (s a : ℕ) (l : s ≤ a) (h : History) where
-  pub fill-not-first : (c v : ℕ) (r : Result (Unit {0}) Fault) → sent_first s (after_fill a c v r h) ≡ sent_first s h
-  fill-not-first c v (Ok t) = cond-false (ltb a s) (filled a c v ∷ sent_first s h) (sent_first s h) (le-ltb a s l)
-  fill-not-first c v (Err f) = refl
+  pub fill_not_first : (c v : ℕ) (r : Result (Unit {0}) Fault) → sent_first s (after_fill a c v r h) ≡ sent_first s h
+  fill_not_first c v (Ok t) = cond-false (ltb a s) (filled a c v ∷ sent_first s h) (sent_first s h) (le-ltb a s l)
+  fill_not_first c v (Err f) = refl
 
-  pub fill-second : (c v : ℕ) (r : Result (Unit {0}) Fault) → sent_second s (after_fill a c v r h) ≡ after_fill (a - s) c v r (sent_second s h)
-  fill-second c v (Ok t) = cond-false (ltb a s) (sent_second s h) (filled (a - s) c v ∷ sent_second s h) (le-ltb a s l)
-  fill-second c v (Err f) = refl
+  pub fill_second : (c v : ℕ) (r : Result (Unit {0}) Fault) → sent_second s (after_fill a c v r h) ≡ after_fill (a - s) c v r (sent_second s h)
+  fill_second c v (Ok t) = cond-false (ltb a s) (sent_second s h) (filled (a - s) c v ∷ sent_second s h) (le-ltb a s l)
+  fill_second c v (Err f) = refl
 
 -- a grant of the first
 module _ (s n : ℕ) (h : History) where
-  pub grant-first : (r : Result Block Fault) → ((b : Block) → r ≡ Ok b → b.0 < s) → sent_first s (after_allocate n (up r) h) ≡ after_allocate n r (sent_first s h)
-  grant-first (Ok b) l = cond-true (ltb b.0 s) (granted n b.0 b.1 ∷ sent_first s h) (sent_first s h) (lt-ltb b.0 s (l b refl))
-  grant-first (Err f) l = refl
+  pub grant_first : (r : Result Block Fault) → ((b : Block) → r ≡ Ok b → b.0 < s) → sent_first s (after_allocate n (up r) h) ≡ after_allocate n r (sent_first s h)
+  grant_first (Ok b) l = cond-true (ltb b.0 s) (granted n b.0 b.1 ∷ sent_first s h) (sent_first s h) (lt-ltb b.0 s (l b refl))
+  grant_first (Err f) l = refl
 
-  pub grant-not-second : (r : Result Block Fault) → ((b : Block) → r ≡ Ok b → b.0 < s) → sent_second s (after_allocate n (up r) h) ≡ sent_second s h
-  grant-not-second (Ok b) l = cond-true (ltb b.0 s) (sent_second s h) (granted n (b.0 - s) b.1 ∷ sent_second s h) (lt-ltb b.0 s (l b refl))
-  grant-not-second (Err f) l = refl
+  pub grant_not_second : (r : Result Block Fault) → ((b : Block) → r ≡ Ok b → b.0 < s) → sent_second s (after_allocate n (up r) h) ≡ sent_second s h
+  grant_not_second (Ok b) l = cond-true (ltb b.0 s) (sent_second s h) (granted n (b.0 - s) b.1 ∷ sent_second s h) (lt-ltb b.0 s (l b refl))
+  grant_not_second (Err f) l = refl
 
 -- what is kept, from what each heap keeps of the calls that reached it
 pub keeps_both : {A B : Type 0} (means₁ : A → Meaning) (keeps₁ : A → History → A → Type 0) (keeps₂ : B → History → B → Type 0) (from : Pair A B) (s : Pair A B) (h q₁ q₂ : History)

@@ -7,9 +7,9 @@ use Rattle.heap.specs.declared.fault.Kind.TheVariants.{Segregator as SegregatorK
 use Rattle.heap.specs.declared.fault.Cause.TheVariants.{Shut}
 use Rattle.heap.specs.Faults.{raised, up, and_then}
 use Rattle.heap.specs.Meaning.{Meaning, Block, Lawful, HeapKind, HeapFault, Sits, Apart}
-use Rattle.heap.proofs.Offers.{admits, admits-large, admits-refused, raised_fault, up_ok, up_fault}
+use Rattle.heap.proofs.Offers.{admits, admits_large, admits_refused, raised_fault, up_ok, up_fault}
 use Rattle.pairs.specs.Pairs.{both_fit, pair_span, pair_live, moved_up, first_offer, second_offer, Choice, by_size, by_refusal, pair_offer, paired, segregated, fallen_back}
-use Rattle.pairs.specs.Shares.{by-share}
+use Rattle.pairs.specs.Shares.{by_share}
 use Rattle.std.proofs.lemmas.Bool.{cond-true, cond-false, leb-true, cases_Bool}
 
 -- a choice that always takes one of the two answers
@@ -58,8 +58,8 @@ bounded m w b h = (w.sits b h).within
 
 module _ (k : Kind) (choose : Choice) (picks : Picks choose) (m₁ m₂ : Meaning) where
   -- an offered block is one that the first or the second offers
-  by-offer : (C : Type 0) (n : ℕ) (b : Block) → pair_offer k choose m₁ m₂ n ≡ Ok b → (m₁.offer n ≡ Ok b → C) → (Moved (both_fit m₁.span m₂.span) m₁.span (m₂.offer n) b → C) → C
-  by-offer C n b e first second =
+  by_offer : (C : Type 0) (n : ℕ) (b : Block) → pair_offer k choose m₁ m₂ n ≡ Ok b → (m₁.offer n ≡ Ok b → C) → (Moved (both_fit m₁.span m₂.span) m₁.span (m₂.offer n) b → C) → C
+  by_offer C n b e first second =
       let p = (admits 32768 k (λ q. choose q (first_offer m₁ q) (second_offer k m₁ m₂ q)) n b e).answer in
       ⊎_elim
       (λ (z : choose n (first_offer m₁ n) (second_offer k m₁ m₂ n) ≡ first_offer m₁ n). first (up_ok (m₁.offer n) b (sym z ∙ p)))
@@ -90,13 +90,13 @@ module _ (k : Kind) (choose : Choice) (picks : Picks choose) (m₁ m₂ : Meanin
 
     live-sits : (a : ℕ) → 0 < pair_live m₁ m₂ a → Sits (pair_span m₁ m₂) (a, pair_live m₁ m₂ a)
     live-sits a h =
-        by-share m₁.span (both_fit m₁.span m₂.span) m₁.live m₂.live (Sits (pair_span m₁ m₂) (a, pair_live m₁ m₂ a)) a h
+        by_share m₁.span (both_fit m₁.span m₂.span) m₁.live m₂.live (Sits (pair_span m₁ m₂) (a, pair_live m₁ m₂ a)) a h
         (λ l e. subst (λ (z : ℕ). Sits (pair_span m₁ m₂) (a, z)) (sym e) (first-sits (a, m₁.live a) (w₁.sits a (omega arith))))
         (λ l p e. second-sits (a, pair_live m₁ m₂ a) (a - m₁.span, m₂.live (a - m₁.span)) p (omega arith) e (w₂.sits (a - m₁.span) (omega arith)))
 
-    live-apart : (a b : ℕ) → 0 < pair_live m₁ m₂ a → a < b → 0 < pair_live m₁ m₂ b → a + pair_live m₁ m₂ a ≤ b
-    live-apart a b h l k' =
-        let side = by-share m₁.span (both_fit m₁.span m₂.span) m₁.live m₂.live (a + pair_live m₁ m₂ a ≤ b) in
+    live_apart : (a b : ℕ) → 0 < pair_live m₁ m₂ a → a < b → 0 < pair_live m₁ m₂ b → a + pair_live m₁ m₂ a ≤ b
+    live_apart a b h l k' =
+        let side = by_share m₁.span (both_fit m₁.span m₂.span) m₁.live m₂.live (a + pair_live m₁ m₂ a ≤ b) in
         side a h
         (λ la ea. side b k'
         (λ lb eb. let z = w₁.apart a b (omega arith) l (omega arith) in omega arith)
@@ -108,8 +108,8 @@ module _ (k : Kind) (choose : Choice) (picks : Picks choose) (m₁ m₂ : Meanin
     -- an offered block lies apart from a live one: both are the first's, or both the second's, or they lie in two shares
     live-unused : (n : ℕ) (b : Block) → pair_offer k choose m₁ m₂ n ≡ Ok b → (a : ℕ) → 0 < pair_live m₁ m₂ a → Apart b (a, pair_live m₁ m₂ a)
     live-unused n b e a h =
-        let side = by-share m₁.span (both_fit m₁.span m₂.span) m₁.live m₂.live (Apart b (a, pair_live m₁ m₂ a)) a h in
-        by-offer (Apart b (a, pair_live m₁ m₂ a)) n b e
+        let side = by_share m₁.span (both_fit m₁.span m₂.span) m₁.live m₂.live (Apart b (a, pair_live m₁ m₂ a)) a h in
+        by_offer (Apart b (a, pair_live m₁ m₂ a)) n b e
         (λ f. side
         (λ l ea. subst (λ (z : ℕ). Apart b (a, z)) (sym ea) (w₁.unused n b f a (omega arith)))
         (λ l _ ea. let z = (w₁.offered n b f).within in inl (omega arith)))
@@ -130,13 +130,13 @@ module _ (k : Kind) (choose : Choice) (picks : Picks choose) (m₁ m₂ : Meanin
       span_eighth = span_eighths (both_fit m₁.span m₂.span) m₁.span m₂.span w₁.span_eighth w₂.span_eighth;
       span_bound = span_fits (both_fit m₁.span m₂.span) m₁.span m₂.span refl w₁.span_bound;
       sits = live-sits;
-      apart = live-apart;
-      offered = λ n b e. by-offer (Sits (pair_span m₁ m₂) b) n b e (λ f. first-sits b (w₁.offered n b f)) (λ f. second-sits b f.block f.opened f.at f.long (w₂.offered n f.block f.offer));
-      enough = λ n b e. by-offer (n ≤ b.1) n b e (λ f. w₁.enough n b f) (λ f. let l = f.long in let z = w₂.enough n f.block f.offer in omega arith);
+      apart = live_apart;
+      offered = λ n b e. by_offer (Sits (pair_span m₁ m₂) b) n b e (λ f. first-sits b (w₁.offered n b f)) (λ f. second-sits b f.block f.opened f.at f.long (w₂.offered n f.block f.offer));
+      enough = λ n b e. by_offer (n ≤ b.1) n b e (λ f. w₁.enough n b f) (λ f. let l = f.long in let z = w₂.enough n f.block f.offer in omega arith);
       unused = live-unused;
       zero = refl;
-      large = λ n h. admits-large 32768 k (λ z. choose z (first_offer m₁ z) (second_offer k m₁ m₂ z)) n (lit≤ tt) h;
-      refused = λ n g e. admits-refused 32768 k (λ z. choose z (first_offer m₁ z) (second_offer k m₁ m₂ z)) n q (refusal n) g e;
+      large = λ n h. admits_large 32768 k (λ z. choose z (first_offer m₁ z) (second_offer k m₁ m₂ z)) n (lit≤ tt) h;
+      refused = λ n g e. admits_refused 32768 k (λ z. choose z (first_offer m₁ z) (second_offer k m₁ m₂ z)) n q (refusal n) g e;
     }
 
 pub segregated_lawful : (t : ℕ) (m₁ m₂ : Meaning) → Lawful m₁ → Lawful m₂ → Lawful (segregated t m₁ m₂)

@@ -22,8 +22,8 @@ module _ (s : ℕ) (o : Bool) (f g : ℕ → ℕ) where
   shut x h e = beyond x h ∙ cond-false o (g (x - s)) 0 e
 
   -- a block of the pair is one of the first or one of the second
-  pub by-share : (C : Type 0) (a : ℕ) → 0 < side_by_side s o f g a → (a < s → side_by_side s o f g a ≡ f a → C) → (s ≤ a → o ≡ true → side_by_side s o f g a ≡ g (a - s) → C) → C
-  by-share C a h first second =
+  pub by_share : (C : Type 0) (a : ℕ) → 0 < side_by_side s o f g a → (a < s → side_by_side s o f g a ≡ f a → C) → (s ≤ a → o ≡ true → side_by_side s o f g a ≡ g (a - s) → C) → C
+  by_share C a h first second =
       ⊎_elim
       (λ (l : a < s). first l (low a l))
       (λ (l : s ≤ a). ⊎_elim (λ (e : o ≡ true). second l e (high a l e)) (λ (e : o ≡ false). absurd (let z = shut a l e in let q : ⊥ = omega arith in q)) (cases_Bool o))
@@ -36,7 +36,7 @@ module _ (s : ℕ) (o : Bool) (f g : ℕ → ℕ) where
     in-share C a x i first second =
         let lo = i.from in
         let hi = i.below in
-        by-share C a (omega arith)
+        by_share C a (omega arith)
         (λ l e. let t = bound a (omega arith) in first (omega arith) (record { from = lo; below = omega arith }))
         (λ l p e. second (omega arith) p (record { from = omega arith; below = omega arith }))
 
@@ -47,7 +47,7 @@ module _ (s : ℕ) (o : Bool) (f g : ℕ → ℕ) where
         ⊎_elim
         (λ (z : c ≡ 0). record { start = a - s; from = omega arith; to = omega arith })
         (λ (z : c ≡ 0 → ⊥).
-        by-share (Covered g (a - s) c) k.start (omega arith)
+        by_share (Covered g (a - s) c) k.start (omega arith)
         (λ q e. absurd (let t = bound k.start (omega arith) in let y : ⊥ = omega arith in y))
         (λ q _ e. record { start = k.start - s; from = omega arith; to = omega arith }))
         (cases_eq c 0)
@@ -56,7 +56,7 @@ module _ (s : ℕ) (o : Bool) (f g : ℕ → ℕ) where
     covered-shut a c l p z k =
         let kf = k.from in
         let kt = k.to in
-        by-share ⊥ k.start (omega arith) (λ q e. let t = bound k.start (omega arith) in omega arith) (λ q e _. both_ways o p e)
+        by_share ⊥ k.start (omega arith) (λ q e. let t = bound k.start (omega arith) in omega arith) (λ q e _. both_ways o p e)
 
     pub finds-none : (a : ℕ) → s ≤ a → o ≡ true → Finds g (a - s) None → Finds (side_by_side s o f g) a None
     finds-none a l p none = λ b i. in-share ⊥ b a i (λ q _. omega arith) (λ _ _ j. none (b - s) j)
@@ -64,26 +64,26 @@ module _ (s : ℕ) (o : Bool) (f g : ℕ → ℕ) where
     pub finds-shut : (a : ℕ) → s ≤ a → o ≡ false → Finds (side_by_side s o f g) a None
     finds-shut a l p = λ b i. in-share ⊥ b a i (λ q _. omega arith) (λ _ e _. both_ways o p e)
 
-  pub covered-low : (a c : ℕ) → a < s → Covered (side_by_side s o f g) a c → Covered f a c
-  covered-low a c l k = let kf = k.from in let kt = k.to in let e = low k.start (omega arith) in record { start = k.start; from = kf; to = omega arith }
+  pub covered_low : (a c : ℕ) → a < s → Covered (side_by_side s o f g) a c → Covered f a c
+  covered_low a c l k = let kf = k.from in let kt = k.to in let e = low k.start (omega arith) in record { start = k.start; from = kf; to = omega arith }
 
-  pub low-covered : (a c : ℕ) → a < s → Covered f a c → Covered (side_by_side s o f g) a c
-  low-covered a c l k = let kf = k.from in let kt = k.to in let e = low k.start (omega arith) in record { start = k.start; from = kf; to = omega arith }
+  pub low_covered : (a c : ℕ) → a < s → Covered f a c → Covered (side_by_side s o f g) a c
+  low_covered a c l k = let kf = k.from in let kt = k.to in let e = low k.start (omega arith) in record { start = k.start; from = kf; to = omega arith }
 
   -- the second's block at b, where the pair shows it
   pub at_second : (b : ℕ) → o ≡ true → side_by_side s o f g (s + b) ≡ g b
   at_second b p = high (s + b) (omega arith) p ∙ ap g (let e : s + b - s ≡ b = omega arith in e)
 
-  pub high-covered : (a c : ℕ) → s ≤ a → o ≡ true → Covered g (a - s) c → Covered (side_by_side s o f g) a c
-  high-covered a c l p k = let kf = k.from in let kt = k.to in let e = at_second k.start p in record { start = s + k.start; from = omega arith; to = omega arith }
+  pub high_covered : (a c : ℕ) → s ≤ a → o ≡ true → Covered g (a - s) c → Covered (side_by_side s o f g) a c
+  high_covered a c l p k = let kf = k.from in let kt = k.to in let e = at_second k.start p in record { start = s + k.start; from = omega arith; to = omega arith }
 
 -- What changes, of a first heap's function f to f' and a second's g to g', as the span and the openness stay.
 module _ (s s' : ℕ) (o o' : Bool) (es : s' ≡ s) (eo : o' ≡ o) (f f' g g' : ℕ → ℕ) where
   pub side_same : ((x : ℕ) → f' x ≡ f x) → ((x : ℕ) → g' x ≡ g x) → (x : ℕ) → side_by_side s' o' f' g' x ≡ side_by_side s o f g x
   side_same p q x = let u = p x in let v = q (x - s) in cc
 
-  pub set-low : (a c : ℕ) → a < s → ((x : ℕ) → f' x ≡ cond (x == a) c (f x)) → ((x : ℕ) → g' x ≡ g x) → (x : ℕ) → side_by_side s' o' f' g' x ≡ cond (x == a) c (side_by_side s o f g x)
-  set-low a c l p q x =
+  pub set_low : (a c : ℕ) → a < s → ((x : ℕ) → f' x ≡ cond (x == a) c (f x)) → ((x : ℕ) → g' x ≡ g x) → (x : ℕ) → side_by_side s' o' f' g' x ≡ cond (x == a) c (side_by_side s o f g x)
+  set_low a c l p q x =
       ⊎_elim
       (λ (h : x < s). low s' o' f' g' x (omega arith) ∙ p x ∙ ap (cond (x == a) c) (sym (low s o f g x h)))
       (λ (h : s ≤ x).

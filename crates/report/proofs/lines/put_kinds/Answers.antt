@@ -10,8 +10,8 @@ use Rattle.report.proofs.lines.put_kinds.Goals.{then-count-gt0, else-count-gt0}
 pub loop-kind-init : goal.loop-kind-init
 loop-kind-init c = (omega arith, laid_none c.args.out.now c.args.at)
 
-pub put-line-next-requires : goal.put-line-next-requires
-put-line-next-requires c =
+pub put_line-next-requires : goal.put_line-next-requires
+put_line-next-requires c =
     let k = length_kinds 0 (take c.loop-kind.kind c.args.kinds.now) in
     let l = length-take-le c.loop-kind.kind c.args.kinds.now c.loop-kind.auto.kind-end in
     omega arith
@@ -22,7 +22,7 @@ loop-kind-preserved c =
     let passed = kind_passed c.args.out.now c.loop-kind.out c.args.at c.loop-kind.next c.args.kinds.now c.loop-kind.kind c.loop-kind-test.true room c.loop-kind.invariant in
     let laid = kind_laid c.args.out.now c.loop-kind.out c.args.at c.loop-kind.next c.args.kinds.now c.loop-kind.kind c.loop-kind-test.true room c.loop-kind.invariant in
     elim c.if-count-gt0.branch [
-      | then-count-gt0 w ↦ let e = w.put-line-next.ensures in laid c.if-count-gt0.out c.if-count-gt0.next w.if-count-gt0.true (w.next-is ∙ e.end, w.out-is ∙ e.text)
+      | then-count-gt0 w ↦ let e = w.put_line-next.ensures in laid c.if-count-gt0.out c.if-count-gt0.next w.if-count-gt0.true (w.next-is ∙ e.end, w.out-is ∙ e.text)
       | else-count-gt0 w ↦ let p = passed w.if-count-gt0.false in (w.next-is ∙ p.0, w.out-is ∙ p.1)
     ]
 

@@ -12,8 +12,8 @@ use Rattle.report.proofs.lines.put_line.Goals as goal
 pub loop-field-init : goal.loop-field-init
 loop-field-init c = (omega arith, laid_none c.args.out.now c.args.at)
 
-pub put-field-next-requires : goal.put-field-next-requires
-put-field-next-requires c =
+pub put_field-next-requires : goal.put_field-next-requires
+put_field-next-requires c =
     let r = room_more hex_field c.args.fields.now c.loop-field.field-index (Byte 0) c.loop-field-test.true in
     let l = length_line c.args.fields.now in
     omega arith
@@ -21,8 +21,8 @@ put-field-next-requires c =
 pub loop-field-preserved : goal.loop-field-preserved
 loop-field-preserved c =
     let room : c.args.at ≤ length c.args.out.now = let p = c.requires in omega arith in
-    let e = c.put-field-next.ensures in
-    let P : List ℕ → Type 0 = λ s. Laid c.args.out.now c.args.at s c.put-field-next.result c.put-field-next.new.out in
+    let e = c.put_field-next.ensures in
+    let P : List ℕ → Type 0 = λ s. Laid c.args.out.now c.args.at s c.put_field-next.result c.put_field-next.new.out in
     subst P (sym (grown hex_field c.args.fields.now c.loop-field.field-index (Byte 0) c.loop-field-test.true))
     (laid_on _ c.loop-field.out _ _ c.loop-field.next _ _ _ room c.loop-field.invariant (e.end, e.text))
 
@@ -34,8 +34,8 @@ ended c =
 pub bounds-out-next : goal.bounds-out-next
 bounds-out-next c = let e = (ended c).0 in let l = length_line c.args.fields.now in omega arith
 
-pub overflow-add-result : goal.overflow-add-result
-overflow-add-result c = let e = (ended c).0 in let l = length_line c.args.fields.now in omega arith
+pub overflow_add-result : goal.overflow_add-result
+overflow_add-result c = let e = (ended c).0 in let l = length_line c.args.fields.now in omega arith
 
 pub returns : goal.returns
 returns c =

@@ -19,5 +19,5 @@ returns-in-Refused c = λ os h e.
     ∙ kinds_refused os f c.count.result more
     ∙ ap (λ (o : Outcome). kinds_of (os ++ (o ∷ []))) (sym c.in-Refused.is)
 
-pub returns-in-default : goal.returns-in-default
-returns-in-default c = λ os h e. e ∙ kinds_other os c.args.outcome c.in-default.not-Refused
+pub returns-in_default : goal.returns-in_default
+returns-in_default c = λ os h e. e ∙ kinds_other os c.args.outcome c.in_default.not-Refused

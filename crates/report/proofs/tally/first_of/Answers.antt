@@ -16,5 +16,5 @@ returns-in-Refused c = λ os h e.
     ∙ ap (λ (o : Outcome). first_from (1 + length os) (o ∷ [])) c.in-Refused.is
     ∙ ap told n)
 
-pub returns-in-default : goal.returns-in-default
-returns-in-default c = λ os h e. sym (first_none 1 os (c.args.outcome ∷ []) (sym e ∙ c.in-None.is) ∙ first_other (1 + length os) c.args.outcome c.in-default.not-Refused)
+pub returns-in_default : goal.returns-in_default
+returns-in_default c = λ os h e. sym (first_none 1 os (c.args.outcome ∷ []) (sym e ∙ c.in-None.is) ∙ first_other (1 + length os) c.args.outcome c.in_default.not-Refused)

@@ -7,6 +7,6 @@ returns-in-len6-up c =
     let xs = c.args.trace.now in
     let some : 6 ≤ length xs = omega (arith, ltb-false) in
     record {
-      frames = read_frames xs c.from-be-bytes-number.result some c.from-be-bytes-number.ensures;
-      bytes = read_bytes xs c.from-be-bytes-number.result some c.from-be-bytes-number.ensures (λ i. let f = c.type-inv.trace i in omega arith);
+      frames = read_frames xs c.from_be_bytes-number.result some c.from_be_bytes-number.ensures;
+      bytes = read_bytes xs c.from_be_bytes-number.result some c.from_be_bytes-number.ensures (λ i. let f = c.ok.trace i in omega arith);
     }

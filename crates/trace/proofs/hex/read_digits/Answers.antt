@@ -10,13 +10,13 @@ returns-then-text-ne12 c = sym (cond-false (eqb (length c.args.text.now) 12) (by
 pub loop-i-init : goal.loop-i-init
 loop-i-init c = (behind_none (bytes_in c.args.text.now), refl)
 
-pub returns-in-err-bytes : goal.returns-in-err-bytes
-returns-in-err-bytes c =
+pub returns-in_err-bytes : goal.returns-in_err-bytes
+returns-in_err-bytes c =
     let text = c.args.text.now in
     let twelve = c.if-text-ne12.false in
     let few = c.loop-i-test.true in
-    let none = misspelled text c.loop-i.bytes c.loop-i.i (bytes_in text) (omega arith) c.loop-i.invariant.0 c.in-err-bytes.ensures in
-    c.from-residual.ensures ∙ sym (cond-true (eqb (length text) 12) (bytes_in text) None (eq-eqb (length text) 12 twelve) ∙ none)
+    let none = misspelled text c.loop-i.bytes c.loop-i.i (bytes_in text) (omega arith) c.loop-i.invariant.0 c.in_err-bytes.ensures in
+    c.from_residual.ensures ∙ sym (cond-true (eqb (length text) 12) (bytes_in text) None (eq-eqb (length text) 12 twelve) ∙ none)
 
 pub loop-i-preserved : goal.loop-i-preserved
 loop-i-preserved c =
@@ -24,7 +24,7 @@ loop-i-preserved c =
     let twelve = c.if-text-ne12.false in
     let few = c.loop-i-test.true in
     let six = c.loop-i.invariant.1 in
-    (spelled_more text c.loop-i.bytes c.loop-i.i (bytes_in text) (omega arith) c.loop-i.invariant.0 c.in-ok-bytes.field-0 (omega arith) c.in-ok-bytes.ensures, length-set c.loop-i.bytes c.loop-i.i c.in-ok-bytes.field-0 ∙ six)
+    (spelled_more text c.loop-i.bytes c.loop-i.i (bytes_in text) (omega arith) c.loop-i.invariant.0 c.in_ok-bytes.field-0 (omega arith) c.in_ok-bytes.ensures, length-set c.loop-i.bytes c.loop-i.i c.in_ok-bytes.field-0 ∙ six)
 
 pub returns : goal.returns
 returns c =

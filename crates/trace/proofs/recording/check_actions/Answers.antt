@@ -14,6 +14,6 @@ loop-frame-preserved c =
     let few = inv.1 in (
       inv.0
           ∙ ap (λ (fs : List Frame). passed (actions_from c.loop-frame.place fs)) c.in-Some.ensures.frames
-          ∙ passed_on c.loop-frame.place f (frames_of rest) c.in-ok-at-frame.field-0 (let q = c.in-ok-at-frame.ensures in let a = c.action.ensures in cc),
+          ∙ passed_on c.loop-frame.place f (frames_of rest) c.in_ok-at_frame.field-0 (let q = c.in_ok-at_frame.ensures in let a = c.action.ensures in cc),
       omega arith,
     )

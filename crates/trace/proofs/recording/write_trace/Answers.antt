@@ -14,8 +14,8 @@ loop-i-preserved c =
     let d : Frame = record { kind = 0; id = 0; number = 0 } in
     let lt : i < length fs = c.loop-i-test.true in
     let room : 6 * i + 6 ≤ length c.args.out.now = let l = c.if-out-frames.false in omega arith in
-    let b = c.to-bytes-bytes.ensures in (
-      write_more fs i d c.args.out.now c.loop-i.out c.copy-from-slice.new.self lt room (c.copy-from-slice.ensures.after ∙ b.bytes) c.loop-i.invariant.0,
+    let b = c.to_bytes-bytes.ensures in (
+      write_more fs i d c.args.out.now c.loop-i.out c.copy_from_slice.new.self lt room (c.copy_from_slice.ensures.after ∙ b.bytes) c.loop-i.invariant.0,
       read_more fs i d lt (sym (ap frames_of b.bytes) ∙ b.frames) c.loop-i.invariant.1,
     )
 

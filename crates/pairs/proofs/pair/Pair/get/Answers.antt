@@ -1,8 +1,8 @@
 use Rattle.std.proofs.Common.{ℕ, ◌-◌, ◌<◌, ◌≤◌, sym, subst, arith}
 use Rattle.heap.specs.Meaning.{Gets}
-use Rattle.heap.proofs.Offers.{own-get}
+use Rattle.heap.proofs.Offers.{own_get}
 use Rattle.pairs.specs.Pairs.{both_fit, pair_live, pair_byte}
-use Rattle.pairs.specs.Shares.{low, high, covered-low, low-covered, covered-high, high-covered, covered-shut}
+use Rattle.pairs.specs.Shares.{low, high, covered_low, low_covered, covered-high, high_covered, covered-shut}
 use Rattle.pairs.specs.Paired.{bounded}
 use Rattle.pairs.proofs.pair.Pair.get.Goals as goal
 
@@ -16,8 +16,8 @@ returns-then-a-base g c =
     let t = c.if-a-base.true in
     let l : a < m₁.span = omega arith in
     let o = both_fit m₁.span m₂.span in
-    rw c.make_own.ensures (own-get c.args.kind m₁.kind (pair_live m₁ m₂) m₁.live a a (pair_byte m₁ m₂) m₁.byte c.get.result
-    (covered-low m₁.span o m₁.live m₂.live a 1 l) (low-covered m₁.span o m₁.live m₂.live a 1 l) (sym (low m₁.span o m₁.byte m₂.byte a l)) c.get.ensures)
+    rw c.make_own.ensures (own_get c.args.kind m₁.kind (pair_live m₁ m₂) m₁.live a a (pair_byte m₁ m₂) m₁.byte c.get.result
+    (covered_low m₁.span o m₁.live m₂.live a 1 l) (low_covered m₁.span o m₁.live m₂.live a 1 l) (sym (low m₁.span o m₁.byte m₂.byte a l)) c.get.ensures)
 
 pub returns-then-not-is_open : goal.returns-then-not-is_open
 returns-then-not-is_open g c =
@@ -40,6 +40,6 @@ returns g c =
     let o = both_fit m₁.span m₂.span in
     let p = sym c.if-not-is_open.ensures in
     let bound = bounded m₁ (g.A.Meant.lawful s.first) in
-    rw c.make_own-2.ensures (own-get c.args.kind m₂.kind (pair_live m₁ m₂) m₂.live a (a - m₁.span) (pair_byte m₁ m₂) m₂.byte c.get-2.result
-    (covered-high m₁.span o m₁.live m₂.live bound a 1 l p) (high-covered m₁.span o m₁.live m₂.live a 1 l p) (sym (high m₁.span o m₁.byte m₂.byte a l p))
+    rw c.make_own-2.ensures (own_get c.args.kind m₂.kind (pair_live m₁ m₂) m₂.live a (a - m₁.span) (pair_byte m₁ m₂) m₂.byte c.get-2.result
+    (covered-high m₁.span o m₁.live m₂.live bound a 1 l p) (high_covered m₁.span o m₁.live m₂.live a 1 l p) (sym (high m₁.span o m₁.byte m₂.byte a l p))
     (subst (λ (z : ℕ). Gets m₂.kind m₂.live m₂.byte (a - z) c.get-2.result) e c.get-2.ensures))

@@ -19,10 +19,10 @@ returns c = λ os h e.
     let load : c.after-self.result ≡ load_of (os ++ (o ∷ [])) = c.after-self.ensures (subst Loadable (sym la) h.load) ∙ la in
     tallied (os ++ (o ∷ [])) _ _ _ _ _ _ _ _
     (frames ∙ sym long)
-    (count_more is_granted os o _ _ _ few (ap (λ (t : Tally). t.granted) e) c.is-granted.ensures c.count-self-2.ensures)
-    (count_more is_freed os o _ _ _ few (ap (λ (t : Tally). t.freed) e) c.is-freed.ensures c.count-self-3.ensures)
-    (count_more is_refused os o _ _ _ few (ap (λ (t : Tally). t.refused) e) c.is-refused.ensures c.count-self-4.ensures)
+    (count_more is_granted os o _ _ _ few (ap (λ (t : Tally). t.granted) e) c.is_granted.ensures c.count-self-2.ensures)
+    (count_more is_freed os o _ _ _ few (ap (λ (t : Tally). t.freed) e) c.is_freed.ensures c.count-self-3.ensures)
+    (count_more is_refused os o _ _ _ few (ap (λ (t : Tally). t.refused) e) c.is_refused.ensures c.count-self-4.ensures)
     load
     (c.most-self.ensures ∙ (let p = ap (λ (t : Tally). t.peak) e in let q = peaks_push os o c.after-self.result load in cc))
-    (c.count-kind-self.ensures os few (ap (λ (t : Tally). t.kinds) e))
-    (c.first-of-self.ensures os frames (ap (λ (t : Tally). t.first) e))
+    (c.count_kind-self.ensures os few (ap (λ (t : Tally). t.kinds) e))
+    (c.first_of-self.ensures os frames (ap (λ (t : Tally). t.first) e))
