@@ -1,8 +1,7 @@
 -- A tally with one outcome more.
-use Rattle.std.proofs.Common.{◌≡◌, ℕ, suc, ◌+◌, ◌<◌, ◌≤◌, max, Bool, true, false, cond, eqb, ◌≢◌, ◌⊎◌, List, [], ◌∷◌, ◌++◌, map, length, get_or, set, Some, None, count_by, Option, sym, refl, ap, ◌∙◌, subst, inl, inr, ⊎_elim, add-one, arith, lit<, length-set}
+use Rattle.std.proofs.Common.{◌≡◌, ℕ, ◌+◌, ◌<◌, ◌≤◌, max, Bool, true, false, cond, eqb, List, [], ◌∷◌, ◌++◌, map, length, get_or, set, Some, None, count_by, Option, sym, refl, ap, ◌∙◌, subst, ⊎_elim, arith, lit<, length-set}
 use mathlib.Core.List.{map-append}
-use Rattle.std.specs.List.{range_with_len}
-use Rattle.std.proofs.lemmas.List.FromFn.{get_or-map-range_with_len, length-map-range_with_len, fill_by_all}
+use Rattle.std.proofs.lemmas.List.FromFn.{get_or-map-range_with_len, fill_by_all}
 use Rattle.std.proofs.lemmas.List.{get_or-set_same, get_or-set_other}
 use Rattle.std.proofs.lemmas.List.Sums.{sum_by_push, fold_push, count_by-le-length}
 use Rattle.std.proofs.lemmas.Bool.{cases_eq, eq-eqb, ne_eqb}
@@ -13,8 +12,7 @@ use Rattle.heap.specs.Faults.{kind_number}
 use Rattle.report.specs.declared.tally.Outcome.{Outcome}
 use Rattle.report.specs.declared.tally.Outcome.TheVariants.{Granted, Freed, Done, Refused}
 use Rattle.report.specs.declared.tally.Load.{Load}
-use Rattle.report.specs.declared.tally.Tally.{Tally}
-use Rattle.report.specs.Tallies.{is_granted, is_freed, is_refused, is_refused_by, load_after, load_of, prefixes, highest, peak_of, kinds_of, first_from, tally_of, Countable}
+use Rattle.report.specs.Tallies.{is_granted, is_freed, is_refused, is_refused_by, load_after, load_of, prefixes, highest, peak_of, kinds_of, first_from, tally_of}
 
 pub count_push : (p : Outcome → Bool) (os : List Outcome) (o : Outcome) → count_by p (os ++ (o ∷ [])) ≡ count_by p os + cond (p o) 1 0
 count_push p os o = sum_by_push (λ x. cond (p x) 1 0) os o

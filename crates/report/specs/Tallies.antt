@@ -1,5 +1,5 @@
 -- What a report tells of the outcomes of a replay's frames.
-use Rattle.std.specs.Prelude.{◌≡◌, ℕ, ◌+◌, ◌-◌, ◌<◌, ◌≤◌, max, Bool, true, false, cond, List, [], ◌∷◌, ◌++◌, map, length, Some, None, fold, count_by, Option, ◌==◌}
+use Rattle.std.specs.Prelude.{ℕ, ◌+◌, ◌-◌, ◌<◌, max, Bool, true, false, List, [], ◌∷◌, map, length, Some, None, fold, count_by, Option, ◌==◌}
 use Rattle.std.specs.List.{range_with_len}
 use Rattle.heap.specs.declared.fault.Fault.{Fault}
 use Rattle.heap.specs.Faults.{kind_number}

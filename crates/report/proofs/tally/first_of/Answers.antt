@@ -1,4 +1,4 @@
-use Rattle.std.proofs.Common.{◌≡◌, ℕ, ◌+◌, List, [], ◌∷◌, ◌++◌, length, Some, Option, sym, refl, ap, ◌∙◌, arith}
+use Rattle.std.proofs.Common.{◌≡◌, ℕ, ◌+◌, [], ◌∷◌, length, Some, Option, sym, ap, ◌∙◌, arith}
 use Rattle.heap.specs.declared.fault.Fault.{Fault}
 use Rattle.report.specs.declared.tally.Outcome.{Outcome}
 use Rattle.report.specs.Tallies.{first_from}

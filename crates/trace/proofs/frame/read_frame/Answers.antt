@@ -8,5 +8,5 @@ returns-in-len6-up c =
     let some : 6 ≤ length xs = omega (arith, ltb-false) in
     record {
       frames = read_frames xs c.from_be_bytes-number.result some c.from_be_bytes-number.ensures;
-      bytes = read_bytes xs c.from_be_bytes-number.result some c.from_be_bytes-number.ensures (λ i. let f = c.ok.trace i in omega arith);
+      bytes = read_bytes xs c.from_be_bytes-number.result some c.from_be_bytes-number.ensures (λ i. let f = c.type_inv.trace i in omega arith);
     }

@@ -1,6 +1,6 @@
-use Rattle.std.proofs.Common.{◌≡◌, ℕ, ◌+◌, List, ◌++◌, length, sym, ap, ◌∙◌, arith}
+use Rattle.std.proofs.Common.{◌≡◌, ◌+◌, List, length, ap, ◌∙◌, arith}
 use Rattle.trace.specs.declared.frame.Frame.{Frame}
-use Rattle.trace.specs.Frames.{frame_bytes, frames_of}
+use Rattle.trace.specs.Frames.{frames_of}
 use Rattle.trace.specs.Recordings.{actions_from, passed}
 use Rattle.trace.proofs.Testing.{passed_on}
 use Rattle.trace.proofs.recording.check_actions.Goals as goal

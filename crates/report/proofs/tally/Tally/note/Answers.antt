@@ -1,9 +1,8 @@
-use Rattle.std.proofs.Common.{◌≡◌, ℕ, ◌+◌, ◌<◌, true, List, [], ◌∷◌, ◌++◌, length, sym, refl, ap, ◌∙◌, subst, arith}
+use Rattle.std.proofs.Common.{◌≡◌, ℕ, ◌+◌, ◌<◌, [], ◌∷◌, ◌++◌, length, sym, ap, ◌∙◌, subst, max, arith}
 use Rattle.std.proofs.lemmas.List.{length_push}
-use Rattle.report.specs.declared.tally.Outcome.{Outcome}
 use Rattle.report.specs.declared.tally.Load.{Load}
 use Rattle.report.specs.declared.tally.Tally.{Tally}
-use Rattle.report.specs.Tallies.{is_granted, is_freed, is_refused, load_after, load_of, peak_of, Loadable}
+use Rattle.report.specs.Tallies.{is_granted, is_freed, is_refused, load_after, load_of, Loadable}
 use Rattle.report.proofs.Tallying.{tallied, count_more, load_push, peaks_push}
 use Rattle.report.proofs.tally.Tally.note.Goals as goal
 
@@ -23,6 +22,6 @@ returns c = λ os h e.
     (count_more is_freed os o _ _ _ few (ap (λ (t : Tally). t.freed) e) c.is_freed.ensures c.count-self-3.ensures)
     (count_more is_refused os o _ _ _ few (ap (λ (t : Tally). t.refused) e) c.is_refused.ensures c.count-self-4.ensures)
     load
-    (c.most-self.ensures ∙ (let p = ap (λ (t : Tally). t.peak) e in let q = peaks_push os o c.after-self.result load in cc))
+    (c.most-self.ensures ∙ (let higher : Load → Load = λ z. record { blocks = max z.blocks c.after-self.result.blocks; bytes = max z.bytes c.after-self.result.bytes } in ap higher (ap (λ (t : Tally). t.peak) e) ∙ sym (peaks_push os o c.after-self.result load)))
     (c.count_kind-self.ensures os few (ap (λ (t : Tally). t.kinds) e))
     (c.first_of-self.ensures os frames (ap (λ (t : Tally). t.first) e))
