@@ -1,6 +1,5 @@
 -- A trace that is accepted names its pile in its first frame.
-use Rattle.std.proofs.Common.{◌≡◌, ℕ, ◌≤◌, List, Ok, sym, ap, ◌∙◌, arith}
-use Rattle.trace.specs.declared.frame.Frame.{Frame}
+use Rattle.std.proofs.Common.{◌≡◌, ℕ, List, Ok, sym, ap, ◌∙◌, arith}
 use Rattle.trace.specs.Frames.{frames_of}
 use Rattle.trace.specs.Recordings.{Recording, recorded}
 use Rattle.trace.proofs.Testing.{recorded_head}

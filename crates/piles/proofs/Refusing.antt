@@ -1,5 +1,5 @@
 -- What is answered for a trace that no pile takes.
-use Rattle.std.proofs.Common.{◌≡◌, ℕ, ◌<◌, ◌≤◌, ◌⊎◌, List, length, Ok, Err, Result, sym, ap, ◌∙◌, subst, inl, inr, arith}
+use Rattle.std.proofs.Common.{◌≡◌, ℕ, ◌<◌, ◌⊎◌, List, length, Ok, Err, Result, subst, inl, inr, arith}
 use Rattle.heap.specs.declared.fault.Fault.{Fault}
 use Rattle.trace.specs.Recordings.{Recording, recorded}
 use Rattle.report.specs.Lines.{refusal_text, Writes}

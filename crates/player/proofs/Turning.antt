@@ -68,4 +68,4 @@ ran_append (t ∷ ts) us m m' m'' (more a w q) r = more a w (ran_append ts us _ 
 
 pub after_append : (ts us : List Step) (h : History) → after_steps (ts ++ us) h ≡ after_steps us (after_steps ts h)
 after_append [] us h = refl
-after_append (t ∷ ts) us h = after_append ts us (runs.after-answer t.call t.answer h)
+after_append (t ∷ ts) us h = after_append ts us (runs.after_answer t.call t.answer h)

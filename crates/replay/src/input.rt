@@ -1,4 +1,5 @@
 // The program's arguments, and the trace on standard input.
+use anyhow::anyhow;
 use std::env;
 use std::io::{BufRead, BufReader, Read};
 use trace::hex::read_digits;
@@ -20,10 +21,7 @@ pub fn asked_form(rt: &HostRuntime) -> anyhow::Result<Form> {
             "--hex" => form = Form::Hex,
             "--help" => return Ok(Form::Help),
             other => {
-                let words = format!(in rt.alloc();
-                    "unknown option {other}; --help tells the options"
-                )?;
-                return Err(words.into());
+                return Err(anyhow!("unknown option {other}; --help tells the options"));
             }
         }
     }
@@ -58,8 +56,7 @@ pub fn read_hex(rt: &HostRuntime) -> anyhow::Result<Vec<u8>> {
             continue;
         }
         let Some(frame) = read_digits(text.as_bytes()) else {
-            let words = format!(in rt.alloc(); "line {number}: a frame is twelve hex digits")?;
-            return Err(words.into());
+            return Err(anyhow!("line {number}: a frame is twelve hex digits"));
         };
         if trace.len() <= LONGEST_TRACE {
             trace.extend_from_slice(&frame)?;

@@ -4,4 +4,4 @@ use Rattle.piles.proofs.answer.Goals as goal
 pub returns-in-Err : goal.returns-in-Err
 returns-in-Err c =
     let k = c.in-Err.ensures in
-    refused c.args.trace.now c.args.text.now c.replay-pile.new.report c.write-refusal.new.report c.in-Err.fault k.pile c.write-refusal.result k.replayed c.write-refusal.ensures
+    refused c.args.trace.now c.args.text.now c.replay_pile.new.report c.write_refusal.new.report c.in-Err.fault k.pile c.write_refusal.result k.replayed c.write_refusal.ensures

@@ -1,5 +1,5 @@
-use Rattle.std.proofs.Common.{ℕ, List, length, refl, ap, ◌∙◌}
-use Rattle.piles.specs.Piles.{one, FreshBump}
+use Rattle.std.proofs.Common.{length, refl, ap, ◌∙◌}
+use Rattle.piles.specs.Piles.{one}
 use Rattle.piles.proofs.replay_bump.Goals as goal
 
 pub returns : goal.returns

@@ -1,4 +1,4 @@
-use Rattle.std.proofs.Common.{sym, ap, ◌∙◌, subst}
+use Rattle.std.proofs.Common.{ap, ◌∙◌}
 use Rattle.heap.specs.declared.rounding.Power.{Power}
 use Rattle.layers.specs.declared.quota.Quota.{Quota}
 use Rattle.layers.specs.declared.affix.Affix.{Affix}

@@ -1,5 +1,5 @@
-use Rattle.std.proofs.Common.{◌≡◌, ℕ, List, length, refl, ap, ◌∙◌}
-use Rattle.boundary_tag.specs.Chunks.{chunks, one_free, tag_span}
+use Rattle.std.proofs.Common.{ℕ, length, refl, ap, ◌∙◌}
+use Rattle.boundary_tag.specs.Chunks.{one_free, tag_span}
 use Rattle.piles.specs.Piles.{three}
 use Rattle.piles.proofs.replay_three.Goals as goal
 
@@ -13,4 +13,4 @@ returns c =
     (record { region = ap length e.region ∙ refl; used = e.used; first = e.first })
     (record { region = f.long ∙ refl; chunks = f.list ∙ ap (λ (n : ℕ). one_free (tag_span n)) f.long })
     (record { region = ap length h.region ∙ refl; cursor = h.cursor })
-    c.replay-splitting.ensures
+    c.replay_splitting.ensures

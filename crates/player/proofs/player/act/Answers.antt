@@ -1,7 +1,6 @@
 use Rattle.heap.specs.declared.calls.Call.TheVariants as call
 use Rattle.heap.specs.declared.calls.Answer.TheVariants as answer
 use Rattle.heap.specs.Runs as runs
-use Rattle.trace.specs.declared.frame.Action.TheVariants.{Relief}
 use Rattle.report.specs.declared.tally.Outcome.TheVariants.{Done}
 use Rattle.player.specs.Turns.{Turned, call_of, relieved}
 use Rattle.player.proofs.Acting.{called}

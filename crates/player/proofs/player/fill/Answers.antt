@@ -4,7 +4,7 @@ use Rattle.heap.specs.declared.calls.Answer.TheVariants as answer
 use Rattle.heap.specs.Runs as runs
 use Rattle.trace.specs.declared.frame.Action.TheVariants.{Fill}
 use Rattle.report.specs.declared.tally.Outcome.TheVariants.{Done, Refused}
-use Rattle.player.specs.declared.slots.Slot.TheVariants.{Empty, Held}
+use Rattle.player.specs.declared.slots.Slot.TheVariants.{Held}
 use Rattle.player.specs.Turns.{Turned, call_of, none_to_fill, filled, unfilled}
 use Rattle.player.proofs.Acting.{uncalled, called}
 use Rattle.player.proofs.player.fill.Goals as goal

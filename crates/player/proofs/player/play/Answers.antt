@@ -21,7 +21,7 @@ loop-frame-preserved g c =
     let few = inv.3 in (
       inv.0,
       inv.1,
-      actions_next c.in-Some.frame _ (frames_of rest) inv.0 _ (Err c.in-default-action.field-0) c.in-Some.ensures.frames inv.2 (sym c.in-default-action.ensures)
+      actions_next c.in-Some.frame _ (frames_of rest) inv.0 _ (Err c.in_default-action.field-0) c.in-Some.ensures.frames inv.2 (sym c.in_default-action.ensures)
           ∙ ap (λ (z : List Action). z ++ actions_in (frames_of rest)) (append-nil inv.0),
       omega arith,
       inv.4,
@@ -30,7 +30,7 @@ loop-frame-preserved g c =
 pub returns : goal.returns
 returns g c =
     let inv = c.loop-frame.invariant in
-    let all : actions_in (frames_of c.args.trace.now) ≡ inv.0 = inv.2 ∙ ap (λ (z : List Frame). inv.0 ++ actions_in z) c.in-default.ensures.frames ∙ append-nil inv.0 in
+    let all : actions_in (frames_of c.args.trace.now) ≡ inv.0 = inv.2 ∙ ap (λ (z : List Frame). inv.0 ++ actions_in z) c.in_default.ensures.frames ∙ append-nil inv.0 in
     subst (λ (z : List Action). Replayed g.H.Meant.means g.H.Meant.keeps z c.loop-frame.player.tally c.args.heap.now c.loop-frame.heap) (sym all)
     (replayed g.H.Meant.means g.H.Meant.keeps g.H.Meant.lawful g.H.Meant.begins inv.0 inv.1 c.loop-frame.player.slots.table c.loop-frame.player.tally c.args.heap.now c.loop-frame.heap inv.4)
 

@@ -15,7 +15,7 @@ returns g c = λ start xs os few k.
     let i : c.id-id.result ≡ id_of x = c.id-id.ensures in
     let slot : c.at.result ≡ get_or ss (id_of x) Empty = c.at.ensures ∙ ap (λ (z : ℕ). get_or ss z Empty) i in
     let acted : Acted g.H.Meant.means g.H.Meant.keeps x (get_or ss (id_of x) Empty) c.args.heap.now c.act-outcome.new.heap r = subst (λ (z : Slot). Acted g.H.Meant.means g.H.Meant.keeps x z c.args.heap.now c.act-outcome.new.heap r) slot c.act-outcome.ensures in
-    let small : id_of x < 256 = let b = c.id-id.type-inv in omega arith in
+    let small : id_of x < 256 = let b = c.id-id.type_inv in omega arith in
     let put : c.put.new.self.table ≡ set ss (id_of x) r.1 = c.put.ensures ∙ ap (λ (z : ℕ). set ss z r.1) i in (
       r.0,
       subst (λ (z : List Slot). Going g.H.Meant.means g.H.Meant.keeps (xs ++ (x ∷ [])) (os ++ (r.0 ∷ [])) z c.note.new.self start c.act-outcome.new.heap) (sym put)
