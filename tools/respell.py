@@ -36,10 +36,10 @@ def own_names():
                 if answers and re.match(r"\s*(goal|Statement)\b", m.group(2)):
                     continue
                 names.add(m.group(1))
-            elif block == "module":
-                # what an unnamed module holds is indented by two
-                m = TOP.match(line[2:]) if re.match(r"  \S", line) else None
-                if m and m.group(1) not in WORDS:
+            elif block == "module" or block is None:
+                # what a module without a name, or a `where`, holds is indented
+                m = INNER.match(line)
+                if m and not answers:
                     names.add(m.group(1))
             elif block:
                 m = INNER.match(line)

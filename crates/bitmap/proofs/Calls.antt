@@ -13,7 +13,7 @@ use Rattle.bitmap.specs.Cells.{Map, cells_of, cells_for, bitmap_live, bitmap_off
 use Rattle.bitmap.specs.Rows.{Lives, lives}
 use Rattle.bitmap.specs.Keeping.{says}
 use Rattle.bitmap.specs.Laws.{Fresh, fresh, bitmap_lawful, covered_span}
-use Rattle.bitmap.proofs.Changes.{mark-live, mark-covered, mark-begun, unmark-live, unmark-covered, unmark-begun}
+use Rattle.bitmap.proofs.Changes.{mark_live, mark_covered, mark_begun, unmark_live, unmark_covered, unmark_begun}
 
 -- an offer by the number of cells is the offer of the region
 pub offer_at : (xs : List ℕ) (u f : Map) (cells n : ℕ) (r : Result Block Fault) → cells ≡ cells_of (length xs) → r ≡ and_then (admitted 32768 BitmapK n) (bitmap_offer u f cells) → r ≡ (bitmap_means xs u f).offer n
@@ -53,7 +53,7 @@ module _ (xs ys : List ℕ) (u f u' f' : Map) (n : ℕ) (b : Block) (o : (bitmap
 
   grant_live : (x : ℕ) → bitmap_live u' f' cells x ≡ cond (eqb x b.0) b.1 (bitmap_live u f cells x)
   grant_live x =
-      mark-live u f u' f' cells new.cell (cells_for n) some_cells new.fits marks x
+      mark_live u f u' f' cells new.cell (cells_for n) some_cells new.fits marks x
       ∙ ap (λ (z : ℕ). cond (eqb x z) (64 * cells_for n) (bitmap_live u f cells x)) (sym new.at)
       ∙ ap (λ (z : ℕ). cond (eqb x b.0) z (bitmap_live u f cells x)) (sym new.long)
 
@@ -74,19 +74,19 @@ module _ (xs ys : List ℕ) (u f u' f' : Map) (n : ℕ) (b : Block) (o : (bitmap
   }
 
   module _ (h : History) (k : BitmapKept h u f cells) where
-    book-none : length_at h (64 * new.cell) ≡ 0
-    book-none = ap (length_at h) (sym new.at) ∙ sym (k.live b.0) ∙ offered_free (bitmap_means xs u f) n b (bitmap_lawful xs u f) o
+    book_none : length_at h (64 * new.cell) ≡ 0
+    book_none = ap (length_at h) (sym new.at) ∙ sym (k.live b.0) ∙ offered_free (bitmap_means xs u f) n b (bitmap_lawful xs u f) o
 
-    book-next : (x : ℕ) → length_at (granted n b.0 b.1 ∷ h) x ≡ cond (eqb x (64 * new.cell)) (64 * cells_for n) (length_at h x)
-    book-next x = ap (λ (z : ℕ). cond (eqb x z) b.1 (length_at h x)) new.at ∙ ap (λ (z : ℕ). cond (eqb x (64 * new.cell)) z (length_at h x)) new.long
+    book_next : (x : ℕ) → length_at (granted n b.0 b.1 ∷ h) x ≡ cond (eqb x (64 * new.cell)) (64 * cells_for n) (length_at h x)
+    book_next x = ap (λ (z : ℕ). cond (eqb x z) b.1 (length_at h x)) new.at ∙ ap (λ (z : ℕ). cond (eqb x (64 * new.cell)) z (length_at h x)) new.long
 
-    kept-granted : BitmapKept (granted n b.0 b.1 ∷ h) u' f' cells
-    kept-granted = says (granted n b.0 b.1 ∷ h) u' f' cells
+    kept_granted : BitmapKept (granted n b.0 b.1 ∷ h) u' f' cells
+    kept_granted = says (granted n b.0 b.1 ∷ h) u' f' cells
         (λ x. m.used x ∙ ap (λ (z : Bool). cond (inside (b.0 / 64) (b.1 / 64) x) true z) (k.used x))
         (λ x. m.first x ∙ ap (λ (z : Bool). cond (inside (b.0 / 64) 1 x) true (cond (inside (b.0 / 64) (b.1 / 64) x) false z)) (k.first x))
         (λ a. grant_live a ∙ ap (λ (z : ℕ). cond (eqb a b.0) b.1 z) (k.live a))
-        (mark-covered u f u' f' cells new.cell (cells_for n) some_cells new.fits marks (length_at h) (length_at (granted n b.0 b.1 ∷ h)) book-none book-next k.covered)
-        (mark-begun u f u' f' cells new.cell (cells_for n) some_cells new.fits marks (length_at h) (length_at (granted n b.0 b.1 ∷ h)) book-none book-next k.begun)
+        (mark_covered u f u' f' cells new.cell (cells_for n) some_cells new.fits marks (length_at h) (length_at (granted n b.0 b.1 ∷ h)) book_none book_next k.covered)
+        (mark_begun u f u' f' cells new.cell (cells_for n) some_cells new.fits marks (length_at h) (length_at (granted n b.0 b.1 ∷ h)) book_none book_next k.begun)
 
   pub keeps_granted : (zs : List ℕ) (v g : Map) (h : History) → BitmapKeeps zs v g h xs u f → BitmapKeeps zs v g (granted n b.0 b.1 ∷ h) ys u' f'
   keeps_granted zs v g h k = record {
@@ -97,7 +97,7 @@ module _ (xs ys : List ℕ) (u f u' f' : Map) (n : ℕ) (b : Block) (o : (bitmap
         p.rest x (λ i. let hi = i.below in omega arith) ∙ k.rest x l;
     kept = λ c d.
         subst (λ (z : ℕ). BitmapKept (granted n b.0 b.1 ∷ h) u' f' (cells_of z)) k.long
-        (kept-granted h (subst (λ (z : ℕ). BitmapKept h u f (cells_of z)) (sym k.long) (k.kept c d)));
+        (kept_granted h (subst (λ (z : ℕ). BitmapKept h u f (cells_of z)) (sym k.long) (k.kept c d)));
   }
 
 -- a free
@@ -119,18 +119,18 @@ module _ (xs : List ℕ) (u f u' f' : Map) (a : ℕ) where
 
     free_live : (x : ℕ) → bitmap_live u' f' count x ≡ cond (eqb x a) 0 (bitmap_live u f count x)
     free_live x =
-        unmark-live u f u' f' count old.cell old.end old.starts old.runs unmarks x
+        unmark_live u f u' f' count old.cell old.end old.starts old.runs unmarks x
         ∙ ap (λ (z : ℕ). cond (eqb x z) 0 (bitmap_live u f count x)) (sym old.at)
 
-    bitmap-freed : Freed a (bitmap_means xs u f) (bitmap_means xs u' f')
-    bitmap-freed = record { kind = refl; span = refl; live = free_live; byte = λ b x i. refl }
+    bitmap_freed : Freed a (bitmap_means xs u f) (bitmap_means xs u' f')
+    bitmap_freed = record { kind = refl; span = refl; live = free_live; byte = λ b x i. refl }
 
     module _ (h : History) (k : BitmapKept h u f count) where
-      book-long : length_at h (64 * old.cell) ≡ 64 * (old.end - old.cell)
-      book-long = ap (length_at h) (sym old.at) ∙ sym (k.live a) ∙ old.long
+      book_long : length_at h (64 * old.cell) ≡ 64 * (old.end - old.cell)
+      book_long = ap (length_at h) (sym old.at) ∙ sym (k.live a) ∙ old.long
 
-      book-left : (x : ℕ) → length_at (freed a ∷ h) x ≡ cond (eqb x (64 * old.cell)) 0 (length_at h x)
-      book-left x = ap (λ (z : ℕ). cond (eqb x z) 0 (length_at h x)) old.at
+      book_left : (x : ℕ) → length_at (freed a ∷ h) x ≡ cond (eqb x (64 * old.cell)) 0 (length_at h x)
+      book_left x = ap (λ (z : ℕ). cond (eqb x z) 0 (length_at h x)) old.at
 
       kept_freed : BitmapKept (freed a ∷ h) u' f' count
       kept_freed = says (freed a ∷ h) u' f' count
@@ -143,8 +143,8 @@ module _ (xs : List ℕ) (u f u' f' : Map) (a : ℕ) where
           ∙ ap (λ (z : ℕ). cond (inside (a / 64) (z / 64) x) false (f x)) (k.live a)
           ∙ ap (λ (z : Bool). cond (inside (a / 64) (length_at h a / 64) x) false z) (k.first x))
           (λ y. free_live y ∙ ap (λ (z : ℕ). cond (eqb y a) 0 z) (k.live y))
-          (unmark-covered u f u' f' count old.cell old.end old.starts old.runs unmarks (length_at h) (length_at (freed a ∷ h)) book-long book-left k.covered)
-          (unmark-begun u f u' f' count old.cell old.end old.starts old.runs unmarks (length_at h) (length_at (freed a ∷ h)) book-long book-left k.begun)
+          (unmark_covered u f u' f' count old.cell old.end old.starts old.runs unmarks (length_at h) (length_at (freed a ∷ h)) book_long book_left k.covered)
+          (unmark_begun u f u' f' count old.cell old.end old.starts old.runs unmarks (length_at h) (length_at (freed a ∷ h)) book_long book_left k.begun)
 
     keeps_freed : (zs : List ℕ) (v g : Map) (h : History) → BitmapKeeps zs v g h xs u f → BitmapKeeps zs v g (freed a ∷ h) xs u' f'
     keeps_freed zs v g h k = record {
@@ -161,9 +161,9 @@ module _ (xs : List ℕ) (u f u' f' : Map) (a : ℕ) where
     may_free (Ok t) s = let w = s.was in let e = ap (λ (z : ℕ). bitmap_live u f z a) q in omega arith
     may_free (Err g) s = (sym (ap (λ (z : ℕ). bitmap_live u f z a) q) ∙ s.0, s.1)
 
-    pub bitmap-frees : (r : Result (Unit {0}) Fault) → Releases cells a u f u' f' r → Frees a (bitmap_means xs u f) (bitmap_means xs u' f') r
-    bitmap-frees (Ok t) s = bitmap-freed (subst (λ (z : ℕ). Release z a u f u' f') q s)
-    bitmap-frees (Err g) s = bitmap_same xs u f u' f' s.2 s.3
+    pub bitmap_frees : (r : Result (Unit {0}) Fault) → Releases cells a u f u' f' r → Frees a (bitmap_means xs u f) (bitmap_means xs u' f') r
+    bitmap_frees (Ok t) s = bitmap_freed (subst (λ (z : ℕ). Release z a u f u' f') q s)
+    bitmap_frees (Err g) s = bitmap_same xs u f u' f' s.2 s.3
 
     pub keeps_frees : (zs : List ℕ) (v g : Map) (h : History) (r : Result (Unit {0}) Fault) → Releases cells a u f u' f' r → BitmapKeeps zs v g h xs u f → BitmapKeeps zs v g (after_free a r h) xs u' f'
     keeps_frees zs v g h (Ok t) s k = keeps_freed (subst (λ (z : ℕ). Release z a u f u' f') q s) zs v g h k

@@ -169,25 +169,25 @@ module _ (u f : Map) (cells : ℕ) where
 
   -- a search
   module _ (w i run r : ℕ) (s : Scanned u f cells w i run) (yes : u i ≡ true → r ≡ 0) (none : u i ≡ false → r ≡ run + 1) where
-    now-free : (x : ℕ) → i + 1 ≤ x + r → x < i + 1 → u x ≡ false
-    now-free x l m =
+    now_free : (x : ℕ) → i + 1 ≤ x + r → x < i + 1 → u x ≡ false
+    now_free x l m =
         let most = s.most in
         ⊎_elim
         (λ (e : u i ≡ true). absurd (let z = yes e in let y : ⊥ = omega arith in y))
         (λ (e : u i ≡ false). let z = none e in ⊎_elim (λ (q : x ≡ i). ap u q ∙ e) (λ (q : x ≡ i → ⊥). s.free x (omega arith) (omega arith)) (cases_eq x i))
         (cases_Bool (u i))
 
-    now-most : r ≤ i + 1
-    now-most = let most = s.most in ⊎_elim (λ (e : u i ≡ true). let z = yes e in omega arith) (λ (e : u i ≡ false). let z = none e in omega arith) (cases_Bool (u i))
+    now_most : r ≤ i + 1
+    now_most = let most = s.most in ⊎_elim (λ (e : u i ≡ true). let z = yes e in omega arith) (λ (e : u i ≡ false). let z = none e in omega arith) (cases_Bool (u i))
 
-    now-before : (x : ℕ) → x + r + 1 ≡ i + 1 → u x ≡ true
-    now-before x l = ⊎_elim (λ (e : u i ≡ true). let z = yes e in let q : x ≡ i = omega arith in ap u q ∙ e) (λ (e : u i ≡ false). let z = none e in s.before x (omega arith)) (cases_Bool (u i))
+    now_before : (x : ℕ) → x + r + 1 ≡ i + 1 → u x ≡ true
+    now_before x l = ⊎_elim (λ (e : u i ≡ true). let z = yes e in let q : x ≡ i = omega arith in ap u q ∙ e) (λ (e : u i ≡ false). let z = none e in s.before x (omega arith)) (cases_Bool (u i))
 
-    pub scanned-more : (w ≤ r → goes_on u f cells (i + 1) ≡ true) → Scanned u f cells w (i + 1) r
-    scanned-more on = record {
-      most = now-most;
-      free = now-free;
-      before = now-before;
+    pub scanned_more : (w ≤ r → goes_on u f cells (i + 1) ≡ true) → Scanned u f cells w (i + 1) r
+    scanned_more on = record {
+      most = now_most;
+      free = now_free;
+      before = now_before;
       none = λ j l k.
           ⊎_elim
           (λ (q : j + w ≤ i). s.none j q k)
@@ -195,7 +195,7 @@ module _ (u f : Map) (cells : ℕ) where
           let at : j + w ≡ i + 1 = omega arith in
           ⊎_elim
           (λ (m : w ≤ r). both_ways (goes_on u f cells (i + 1)) (subst (λ (z : ℕ). goes_on u f cells z ≡ false) at k.end) (on m))
-          (λ (m : r < w). let x = i - r in let y : r ≤ i = omega arith in both_ways (u x) (k.free x (omega arith) (omega arith)) (now-before x (omega arith)))
+          (λ (m : r < w). let x = i - r in let y : r ≤ i = omega arith in both_ways (u x) (k.free x (omega arith) (omega arith)) (now_before x (omega arith)))
           (le_or w r))
           (le_or (j + w) i);
     }

@@ -108,8 +108,8 @@ module _ (xs ys : List ℕ) (a : ℕ) where
 -- a fill
 module _ (xs ys : List ℕ) (a c v : ℕ) where
   module _ (some : 0 < c) (k : Covered (live_in (chunks xs) 0) a c) (p : Painted a c v xs ys) where
-    fill-list : chunks ys ≡ chunks xs
-    fill-list =
+    fill_list : chunks ys ≡ chunks xs
+    fill_list =
         let span = tag_span (length xs) in
         let from = k.from in
         let to = k.to in
@@ -128,12 +128,12 @@ module _ (xs ys : List ℕ) (a c v : ℕ) where
         ∙ rewritten xs ys span pre (d ∷ []) post (end_in pre 0) (end_in pre 0 + d.0) (at_reach xs pre d post w.whole) (λ x h. lo x (omega arith)) (chunk_kept xs ys span (end_in pre 0) d lo hi (at_chunk xs pre d post w.whole), refl) (at_rest xs pre d post w.whole) (λ x h. hi x (omega arith))
         ∙ sym w.whole
 
-    pub painted-paint : Paint a c v xs ys
-    painted-paint = record { some = some; covered = k; painted = p; list = fill-list }
+    pub painted_paint : Paint a c v xs ys
+    painted_paint = record { some = some; covered = k; painted = p; list = fill_list }
 
   module _ (p : Paint a c v xs ys) where
-    tag-filled : Filled a c v (tag_means xs) (tag_means ys)
-    tag-filled = record {
+    tag_filled : Filled a c v (tag_means xs) (tag_means ys)
+    tag_filled = record {
       kind = refl;
       span = ap tag_span p.painted.long;
       live = λ x. ap (λ (cs : List Chunk). live_in cs 0 x) p.list;
@@ -160,7 +160,7 @@ module _ (xs ys : List ℕ) (a c v : ℕ) where
         }
 
   pub tag_fills : (r : Result (Unit {0}) Fault) → Paints a c v xs ys r → Fills a c v (tag_means xs) (tag_means ys) r
-  tag_fills (Ok t) p = tag-filled p
+  tag_fills (Ok t) p = tag_filled p
   tag_fills (Err f) e = same_region xs ys e
 
   pub keeps_fills : (zs : List ℕ) (h : History) (r : Result (Unit {0}) Fault) → Paints a c v xs ys r → TagKeeps zs h xs → TagKeeps zs (after_fill a c v r h) ys

@@ -72,40 +72,40 @@ module _ (xs : List ℕ) (pre : List Chunk) (d : Chunk) (post : List Chunk) (who
   at_behind = laid_behind (tag_span (length xs)) pre (d ∷ post) 0 at_laid
 
   module _ (ys : List ℕ) (c : ℕ) (free : d.1 ≡ 0) (some : 8 ≤ c) (eighth : c % 8 ≡ 0) (most : c + 16 ≤ d.0) (remains : c + 16 < d.0 → c + 40 ≤ d.0) (g : Carved (end_in pre 0) d.0 c xs ys) where
-    live-shape : Shape (tag_span (length xs)) (end_in pre 0) (c + 16, 1)
-    live-shape = let f = at_shape.fits in record { fits = omega arith; some = omega arith; eighth = omega arith; state = inr refl }
+    live_shape : Shape (tag_span (length xs)) (end_in pre 0) (c + 16, 1)
+    live_shape = let f = at_shape.fits in record { fits = omega arith; some = omega arith; eighth = omega arith; state = inr refl }
 
-    live-chunk : chunk_at ys (tag_span (length xs)) (end_in pre 0) ≡ Some (c + 16, 1)
-    live-chunk = chunk_good ys (tag_span (length xs)) (end_in pre 0) (c + 16, 1) (record { head = g.head; tail = g.tail }) live-shape
+    live_chunk : chunk_at ys (tag_span (length xs)) (end_in pre 0) ≡ Some (c + 16, 1)
+    live_chunk = chunk_good ys (tag_span (length xs)) (end_in pre 0) (c + 16, 1) (record { head = g.head; tail = g.tail }) live_shape
 
-    rest-chunk : c + 40 ≤ d.0 → chunk_at ys (tag_span (length xs)) (end_in pre 0 + (c + 16)) ≡ Some (d.0 - (c + 16), 0)
-    rest-chunk h =
+    rest_chunk : c + 40 ≤ d.0 → chunk_at ys (tag_span (length xs)) (end_in pre 0 + (c + 16)) ≡ Some (d.0 - (c + 16), 0)
+    rest_chunk h =
         let f = at_shape.fits in
         let e = at_shape.eighth in
         chunk_good ys (tag_span (length xs)) (end_in pre 0 + (c + 16)) (d.0 - (c + 16), 0)
         (record { head = g.rest_head (omega arith); tail = g.rest_tail (omega arith) })
         (record { fits = omega arith; some = omega arith; eighth = omega arith; state = inl refl })
 
-    carved-walk : walk ys (tag_span (length xs)) 0 ≡ pre ++ split d.0 c post
-    carved-walk =
+    carved_walk : walk ys (tag_span (length xs)) 0 ≡ pre ++ split d.0 c post
+    carved_walk =
         let span = tag_span (length xs) in
         let k = end_in pre 0 in
         ⊎_elim
         (λ (q : d.0 < c + 40).
         let e : c + 16 ≡ d.0 = ⊎_elim (λ (r : c + 16 < d.0). absurd (let z = remains r in let v : ⊥ = omega arith in v)) (λ (r : d.0 ≤ c + 16). omega arith) (cases_lt (c + 16) d.0) in
-        let here : chunk_at ys span k ≡ Some (d.0, 1) = live-chunk ∙ ap (λ (z : ℕ). Some (z, 1)) e in
+        let here : chunk_at ys span k ≡ Some (d.0, 1) = live_chunk ∙ ap (λ (z : ℕ). Some (z, 1)) e in
         rewritten xs ys span pre ((d.0, 1) ∷ []) post k (k + d.0) at_reach g.before (here, refl) at_rest g.behind
         ∙ ap (λ (z : List Chunk). pre ++ z) (sym (split_one d.0 c post q)))
         (λ (q : c + 40 ≤ d.0).
-        rewritten xs ys span pre ((c + 16, 1) ∷ (d.0 - (c + 16), 0) ∷ []) post k (k + d.0) at_reach g.before (live-chunk, (rest-chunk q, (let e : k + (c + 16) + (d.0 - (c + 16)) ≡ k + d.0 = omega arith in e))) at_rest g.behind
+        rewritten xs ys span pre ((c + 16, 1) ∷ (d.0 - (c + 16), 0) ∷ []) post k (k + d.0) at_reach g.before (live_chunk, (rest_chunk q, (let e : k + (c + 16) + (d.0 - (c + 16)) ≡ k + d.0 = omega arith in e))) at_rest g.behind
         ∙ ap (λ (z : List Chunk). pre ++ z) (sym (split_two d.0 c post q)))
         (cases_lt d.0 (c + 40))
 
-    carved-list : chunks ys ≡ pre ++ split d.0 c post
-    carved-list = ap (λ (n : ℕ). walk ys (tag_span n) 0) g.long ∙ carved-walk
+    carved_list : chunks ys ≡ pre ++ split d.0 c post
+    carved_list = ap (λ (n : ℕ). walk ys (tag_span n) 0) g.long ∙ carved_walk
 
-    pub carved-grant : (b : Block) → b.0 ≡ end_in pre 0 + 8 → b.1 ≡ c → Grant b xs ys
-    carved-grant b e f =
+    pub carved_grant : (b : Block) → b.0 ≡ end_in pre 0 + 8 → b.1 ≡ c → Grant b xs ys
+    carved_grant b e f =
         let span = tag_span (length xs) in
         let k = end_in pre 0 in
         record {
@@ -121,24 +121,24 @@ module _ (xs : List ℕ) (pre : List Chunk) (d : Chunk) (post : List Chunk) (who
               (live_around span pre d post 0 a at_laid free (omega arith));
           rest = λ x l. let z = at_shape.fits in g.behind x (omega arith);
           live = λ x.
-              ap (λ (cs : List Chunk). live_in cs 0 x) carved-list
+              ap (λ (cs : List Chunk). live_in cs 0 x) carved_list
               ∙ live_after span pre (d ∷ post) (split d.0 c post) 0 (k + 8) c x at_before (omega arith) (λ y. live_split span d post k c y at_behind free most remains)
               ∙ ap (λ (z : ℕ). cond (eqb x z) c (live_in (pre ++ (d ∷ post)) 0 x)) (sym e)
               ∙ ap (λ (z : ℕ). cond (eqb x b.0) z (live_in (pre ++ (d ∷ post)) 0 x)) (sym f)
               ∙ ap (λ (cs : List Chunk). cond (eqb x b.0) b.1 (live_in cs 0 x)) (sym whole);
           list =
-              carved-list
+              carved_list
               ∙ sym (granted_at span pre d post 0 c at_before)
               ∙ ap (λ (cs : List Chunk). chunks_granted cs 0 (k + 8) c) (sym whole)
               ∙ ap (λ (z : ℕ). chunks_granted (chunks xs) 0 z c) (sym e)
               ∙ ap (λ (z : ℕ). chunks_granted (chunks xs) 0 b.0 z) (sym f);
           end =
-              ap (λ (cs : List Chunk). end_in cs 0) carved-list
+              ap (λ (cs : List Chunk). end_in cs 0) carved_list
               ∙ end_more pre (split d.0 c post) 0
               ∙ end_split d post k c most
               ∙ sym (end_more pre (d ∷ post) 0)
               ∙ ap (λ (cs : List Chunk). end_in cs 0) (sym whole);
-          settled = λ s. subst Settled (sym carved-list) (settled_after pre (d ∷ post) (split d.0 c post) (subst Settled whole s) (settled_split d post c free) (λ b t. beside_split d.0 c post b));
+          settled = λ s. subst Settled (sym carved_list) (settled_after pre (d ∷ post) (split d.0 c post) (subst Settled whole s) (settled_split d post c free) (λ b t. beside_split d.0 c post b));
         }
 
 -- an accepted allocate
@@ -159,4 +159,4 @@ module _ (xs : List ℕ) (n : ℕ) (b : Block) (f : Offered xs n b) where
       let here : b.0 - 8 ≡ end_in u.before 0 = omega arith in
       let long : l ≡ u.here.0 = omega arith in
       let g2 : Carved (end_in u.before 0) u.here.0 b.1 xs ys = subst (λ (z : ℕ). Carved (end_in u.before 0) z b.1 xs ys) long (subst (λ (z : ℕ). Carved z l b.1 xs ys) here g) in
-      carved-grant xs u.before u.here u.behind u.whole ys b.1 f.fit.free f.some f.eighth (omega arith) (λ q. let z = f.rest (omega arith) in omega arith) g2 b (omega arith) refl
+      carved_grant xs u.before u.here u.behind u.whole ys b.1 f.fit.free f.some f.eighth (omega arith) (λ q. let z = f.rest (omega arith) in omega arith) g2 b (omega arith) refl

@@ -241,17 +241,17 @@ end_split d post k c h =
 pub settled_split : (d : Chunk) (post : List Chunk) (c : ℕ) → d.1 ≡ 0 → Settled (d ∷ post) → Settled (split d.0 c post)
 settled_split d post c s w =
     ⊎_elim
-    (λ (q : d.0 < c + 40). subst Settled (sym (split_one d.0 c post q)) (beside-live post, w.1))
-    (λ (q : c + 40 ≤ d.0). subst Settled (sym (split_two d.0 c post q)) ((λ e f. let z : ⊥ = omega arith in z), (beside-free post w.0, w.1)))
+    (λ (q : d.0 < c + 40). subst Settled (sym (split_one d.0 c post q)) (beside_live post, w.1))
+    (λ (q : c + 40 ≤ d.0). subst Settled (sym (split_two d.0 c post q)) ((λ e f. let z : ⊥ = omega arith in z), (beside_free post w.0, w.1)))
     (cases_lt d.0 (c + 40))
   where
-    beside-live : (cs : List Chunk) → Beside (d.0, 1) cs
-    beside-live [] = tt
-    beside-live (b ∷ cs) = λ e f. let z : ⊥ = omega arith in z
+    beside_live : (cs : List Chunk) → Beside (d.0, 1) cs
+    beside_live [] = tt
+    beside_live (b ∷ cs) = λ e f. let z : ⊥ = omega arith in z
 
-    beside-free : (cs : List Chunk) → Beside d cs → Beside (d.0 - (c + 16), 0) cs
-    beside-free [] v = tt
-    beside-free (b ∷ cs) v = λ e f. v s f
+    beside_free : (cs : List Chunk) → Beside d cs → Beside (d.0 - (c + 16), 0) cs
+    beside_free [] v = tt
+    beside_free (b ∷ cs) v = λ e f. v s f
 
 pub beside_split : (l c : ℕ) (post : List Chunk) (b : Chunk) → Beside b (split l c post)
 beside_split l c post b =

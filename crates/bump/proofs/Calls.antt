@@ -45,8 +45,8 @@ module _ (xs ys : List ℕ) (cursor n : ℕ) (b : Block) (f : Fresh xs cursor n 
         ap (λ (cs : List Header). live_in cs 0 x) g.table ∙ live_more (table xs cursor) 0 b.1 x
         ∙ ap (λ (z : ℕ). cond (eqb x z) b.1 (live_in (table xs cursor) 0 x)) (ap (λ (z : ℕ). z + 8) f.whole ∙ sym f.at)
 
-    pub bump-granted : Granted b.0 b.1 (bump_means xs cursor) (bump_means ys (b.0 + b.1))
-    bump-granted = record {
+    pub bump_granted : Granted b.0 b.1 (bump_means xs cursor) (bump_means ys (b.0 + b.1))
+    bump_granted = record {
       kind = refl;
       span = ap span_of g.headed.long;
       live = grant_live;
@@ -58,8 +58,8 @@ module _ (xs ys : List ℕ) (cursor n : ℕ) (b : Block) (f : Fresh xs cursor n 
           g.headed.before x (omega arith);
     }
 
-    kept-granted : (h : History) → BumpKept h xs cursor → BumpKept (granted n b.0 b.1 ∷ h) ys (b.0 + b.1)
-    kept-granted h k = record {
+    kept_granted : (h : History) → BumpKept h xs cursor → BumpKept (granted n b.0 b.1 ∷ h) ys (b.0 + b.1)
+    kept_granted h k = record {
       live = λ a. grant_live a ∙ ap (λ (z : ℕ). cond (eqb a b.0) b.1 z) (k.live a);
       table = g.table ∙ ap (λ (cs : List Header). table_granted cs b.1) k.table;
       cursor =
@@ -76,7 +76,7 @@ module _ (xs ys : List ℕ) (cursor n : ℕ) (b : Block) (f : Fresh xs cursor n 
           let w = f.fits in
           let s : span_of (length xs) ≡ span_of (length zs) = ap span_of k.long in
           g.headed.behind x (omega arith) ∙ k.rest x l;
-      kept = λ z. kept-granted h (k.kept z);
+      kept = λ z. kept_granted h (k.kept z);
     }
 
 -- with the cursor at 0 nothing is live
@@ -162,24 +162,24 @@ module _ (xs ys : List ℕ) (cursor next a : ℕ) (s : Strike a cursor next xs y
 -- a fill
 module _ (xs ys : List ℕ) (cursor a c v : ℕ) where
   module _ (some : 0 < c) (k : Covered (live_in (table xs cursor) 0) a c) (p : Painted a c v xs ys) where
-    fill-bound : bound_of ys cursor ≡ bound_of xs cursor
-    fill-bound = ap (λ (z : ℕ). min cursor (span_of z)) p.long
+    fill_bound : bound_of ys cursor ≡ bound_of xs cursor
+    fill_bound = ap (λ (z : ℕ). min cursor (span_of z)) p.long
 
-    fill-table : table ys cursor ≡ table xs cursor
+    fill_table : table ys cursor ≡ table xs cursor
     unfolding walk
-    fill-table =
-        ap (λ (z : ℕ). headers (z - 0) ys z 0) fill-bound
+    fill_table =
+        ap (λ (z : ℕ). headers (z - 0) ys z 0) fill_bound
         ∙ headers_painted (bound_of xs cursor - 0) xs ys (bound_of xs cursor) 0 k.start (live_in (table xs cursor) 0 k.start)
         (λ x h. p.rest x (λ i. let lo = i.from in let f = k.from in omega arith))
         (λ x h. p.rest x (λ i. let hi = i.below in let t = k.to in omega arith))
         refl (let f = k.from in let t = k.to in omega arith)
 
-    pub painted-paint : Paint a c v cursor xs ys
-    painted-paint = record { some = some; covered = k; painted = p; table = fill-table }
+    pub painted_paint : Paint a c v cursor xs ys
+    painted_paint = record { some = some; covered = k; painted = p; table = fill_table }
 
   module _ (p : Paint a c v cursor xs ys) where
-    bump-filled : Filled a c v (bump_means xs cursor) (bump_means ys cursor)
-    bump-filled = record {
+    bump_filled : Filled a c v (bump_means xs cursor) (bump_means ys cursor)
+    bump_filled = record {
       kind = refl;
       span = ap span_of p.painted.long;
       live = λ x. ap (λ (cs : List Header). live_in cs 0 x) p.table;
@@ -189,8 +189,8 @@ module _ (xs ys : List ℕ) (cursor a c v : ℕ) where
           ∙ ap (λ (cs : List Header). and_then (admitted 32768 BumpK n) (bump_offer (span_of (length xs)) cs cursor)) p.table;
     }
 
-    kept-filled : (h : History) → BumpKept h xs cursor → BumpKept (filled a c v ∷ h) ys cursor
-    kept-filled h r = record {
+    kept_filled : (h : History) → BumpKept h xs cursor → BumpKept (filled a c v ∷ h) ys cursor
+    kept_filled h r = record {
       live = λ x. ap (λ (cs : List Header). live_in cs 0 x) p.table ∙ r.live x;
       table = p.table ∙ r.table;
       cursor = r.cursor;
@@ -203,14 +203,14 @@ module _ (xs ys : List ℕ) (cursor a c v : ℕ) where
           let w = covered_span xs cursor a c p.some p.covered in
           let e : span_of (length xs) ≡ span_of (length zs) = ap span_of k.long in
           p.painted.rest x (λ i. let hi = i.below in omega arith) ∙ k.rest x l;
-      kept = λ z. kept-filled h (k.kept z);
+      kept = λ z. kept_filled h (k.kept z);
     }
 
   same_region : ys ≡ xs → Same (bump_means xs cursor) (bump_means ys cursor)
   same_region e = subst (λ (z : List ℕ). Same (bump_means xs cursor) (bump_means z cursor)) (sym e) (record { kind = refl; span = refl; live = λ a. refl; byte = λ a x i. refl }, λ n. refl)
 
   pub bump_fills : (r : Result (Unit {0}) Fault) → Paints a c v cursor xs ys r → Fills a c v (bump_means xs cursor) (bump_means ys cursor) r
-  bump_fills (Ok t) p = bump-filled p
+  bump_fills (Ok t) p = bump_filled p
   bump_fills (Err f) p = same_region p
 
   pub keeps_fills : (zs : List ℕ) (was : ℕ) (h : History) (r : Result (Unit {0}) Fault) → Paints a c v cursor xs ys r → BumpKeeps zs was h xs cursor → BumpKeeps zs was (after_fill a c v r h) ys cursor

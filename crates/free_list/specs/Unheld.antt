@@ -31,10 +31,10 @@ module _ (held : List ℕ) (live : ℕ → ℕ) (a : ℕ) where
   in_below x i = wider a (unheld held live a) (live a) x unheld_le i
 
   pub covered_below : (c : ℕ) → Covered (unheld held live) a c → Covered live a c
-  covered_below c h = let t = h.to in record { start = h.start; from = h.from; to = omega (arith, unheld-start h.start) }
+  covered_below c h = let t = h.to in record { start = h.start; from = h.from; to = omega (arith, unheld_start h.start) }
     where
-      unheld-start : (s : ℕ) → unheld held live s ≤ live s
-      unheld-start s = grind arith
+      unheld_start : (s : ℕ) → unheld held live s ≤ live s
+      unheld_start s = grind arith
 
 -- where a held block covers a, none does
 pub finds_held : (m : Meaning) (held : List ℕ) (a : ℕ) (b : Block) → Lawful m → Finds m.live a (Some b) → among b.0 held ≡ true → Finds (unheld held m.live) a None

@@ -72,9 +72,9 @@ module _ (k k' : Kind) (live live' : ℕ → ℕ) (a a' : ℕ) where
   own_free (Err f) e q = (e ∙ q.0, ap (λ (z : Fault). raised z.cause k a) q.1)
 
   module _ (c : ℕ) (into : Covered live a c → Covered live' a' c) (back : Covered live' a' c → Covered live a c) where
-    pub own-fill : (r : Result (Unit {0}) Fault) → MayFill k' live' a' c r → MayFill k live a c (own k a r)
-    own-fill (Ok t) q = (q.0, ∥∥₁_map q.1 back)
-    own-fill (Err f) q =
+    pub own_fill : (r : Result (Unit {0}) Fault) → MayFill k' live' a' c r → MayFill k live a c (own k a r)
+    own_fill (Ok t) q = (q.0, ∥∥₁_map q.1 back)
+    own_fill (Err f) q =
         ⊎_elim
         (λ (z : (c ≡ 0) × (f ≡ raised Zero k' a')). inl (z.0, ap (λ (y : Fault). raised y.cause k a) z.1))
         (λ (z : (0 < c) × (Covered live' a' c → ⊥) × (f ≡ raised Outside k' a')). inr (z.0, (λ i. z.1 (into i)), ap (λ (y : Fault). raised y.cause k a) z.2))
@@ -105,16 +105,16 @@ module _ (k : Kind) (o o' : ℕ → Result Block Fault) (m m' : Meaning) where
   freed_with a s = record { kind = refl; span = s.span; live = s.live; byte = s.byte }
 
   module _ (same : SameOffers m m' → (n : ℕ) → o' n ≡ o n) where
-    pub same-with : Same m m' → Same (with_offers k o m) (with_offers k o' m')
-    same-with s = (stays_with s.0, same s.1)
+    pub same_with : Same m m' → Same (with_offers k o m) (with_offers k o' m')
+    same_with s = (stays_with s.0, same s.1)
 
-    pub frees-with : (a : ℕ) (r : Result (Unit {0}) Fault) → Frees a m m' r → Frees a (with_offers k o m) (with_offers k o' m') (own k a r)
-    frees-with a (Ok t) s = freed_with a s
-    frees-with a (Err f) s = same-with s
+    pub frees_with : (a : ℕ) (r : Result (Unit {0}) Fault) → Frees a m m' r → Frees a (with_offers k o m) (with_offers k o' m') (own k a r)
+    frees_with a (Ok t) s = freed_with a s
+    frees_with a (Err f) s = same_with s
 
-    pub fills-with : (a c v : ℕ) (r : Result (Unit {0}) Fault) → Fills a c v m m' r → Fills a c v (with_offers k o m) (with_offers k o' m') (own k a r)
-    fills-with a c v (Ok t) s = record { kind = refl; span = s.span; live = s.live; set = s.set; byte = s.byte; offers = same s.offers }
-    fills-with a c v (Err f) s = same-with s
+    pub fills_with : (a c v : ℕ) (r : Result (Unit {0}) Fault) → Fills a c v m m' r → Fills a c v (with_offers k o m) (with_offers k o' m') (own k a r)
+    fills_with a c v (Ok t) s = record { kind = refl; span = s.span; live = s.live; set = s.set; byte = s.byte; offers = same s.offers }
+    fills_with a c v (Err f) s = same_with s
 
 -- its law: each of its offers is one of below, for a size at least as large
 pub record From (m : Meaning) (n : ℕ) (b : Block) : Type 0 where

@@ -8,7 +8,7 @@ use Rattle.heap.specs.Faults.{raised, up, own, and_then}
 use Rattle.heap.specs.Checks.{admitted}
 use Rattle.heap.specs.Meaning.{Meaning, Block, Lawful, HeapFault, SameOffers, Same, MayFree, Allocates, Frees, Fills}
 use Rattle.heap.proofs.Lawful.{offered_free, offered_below}
-use Rattle.heap.proofs.Offers.{admits, up_fault, raised_fault, lawful_with, and_then_same, granted_with, freed_with, same-with, fills-with}
+use Rattle.heap.proofs.Offers.{admits, up_fault, raised_fault, lawful_with, and_then_same, granted_with, freed_with, same_with, fills_with}
 use Rattle.layers.specs.Quotas.{within_limit, quota_offer, rationed, Charges, Credits, Paid}
 use Rattle.layers.specs.Accounts.{granted_paid, freed_paid, stays_paid, stays_paid_live}
 
@@ -39,7 +39,7 @@ same_offers l l' acc acc' m m' el ea s n =
 
 module _ (l l' acc acc' : ℕ) (m m' : Meaning) (el : l' ≡ l) where
   pub rationed_same : acc' ≡ acc → Same m m' → Same (rationed l acc m) (rationed l' acc' m')
-  rationed_same ea s = same-with QuotaK (quota_offer l acc m) (quota_offer l' acc' m') m m' (same_offers l l' acc acc' m m' el ea) s
+  rationed_same ea s = same_with QuotaK (quota_offer l acc m) (quota_offer l' acc' m') m m' (same_offers l l' acc acc' m m' el ea) s
 
   pub rationed_allocates : (r : Result Block Fault) → Charges acc acc' r → Allocates m m' r → Allocates (rationed l acc m) (rationed l' acc' m') r
   rationed_allocates (Ok b) ea s = granted_with QuotaK (quota_offer l acc m) (quota_offer l' acc' m') m m' b.0 b.1 s
@@ -81,4 +81,4 @@ paid_filled l acc a c v m m' (Ok t) s p = stays_paid_live l acc m m' s.span s.li
 paid_filled l acc a c v m m' (Err f) s p = stays_paid l acc m m' s.0 p
 
 pub rationed_fills : (l acc a c v : ℕ) (m m' : Meaning) (r : Result (Unit {0}) Fault) → Fills a c v m m' r → Fills a c v (rationed l acc m) (rationed l acc m') (own QuotaK a r)
-rationed_fills l acc a c v m m' r s = fills-with QuotaK (quota_offer l acc m) (quota_offer l acc m') m m' (same_offers l l acc acc m m' refl refl) a c v r s
+rationed_fills l acc a c v m m' r s = fills_with QuotaK (quota_offer l acc m) (quota_offer l acc m') m m' (same_offers l l acc acc m m' refl refl) a c v r s

@@ -75,11 +75,11 @@ module _ (k : Kind) (choose : Choice) (picks : Picks choose) (m₁ m₂ : Meanin
         (picks n (first_offer m₁ n) (second_offer k m₁ m₂ n))
 
     -- a block of a heap's shape has the pair's
-    first-sits : (b : Block) → Sits m₁.span b → Sits (pair_span m₁ m₂) b
-    first-sits b i = let t = i.within in record { address = i.address; length = i.length; some = i.some; within = omega arith }
+    first_sits : (b : Block) → Sits m₁.span b → Sits (pair_span m₁ m₂) b
+    first_sits b i = let t = i.within in record { address = i.address; length = i.length; some = i.some; within = omega arith }
 
-    second-sits : (b c : Block) → both_fit m₁.span m₂.span ≡ true → b.0 ≡ m₁.span + c.0 → b.1 ≡ c.1 → Sits m₂.span c → Sits (pair_span m₁ m₂) b
-    second-sits b c e at long i =
+    second_sits : (b c : Block) → both_fit m₁.span m₂.span ≡ true → b.0 ≡ m₁.span + c.0 → b.1 ≡ c.1 → Sits m₂.span c → Sits (pair_span m₁ m₂) b
+    second_sits b c e at long i =
         let t = i.within in
         let u = span_open m₁ m₂ e in
         let p = i.address in
@@ -88,11 +88,11 @@ module _ (k : Kind) (choose : Choice) (picks : Picks choose) (m₁ m₂ : Meanin
         let v = w₁.span_eighth in
         record { address = omega arith; length = omega arith; some = omega arith; within = omega arith }
 
-    live-sits : (a : ℕ) → 0 < pair_live m₁ m₂ a → Sits (pair_span m₁ m₂) (a, pair_live m₁ m₂ a)
-    live-sits a h =
+    live_sits : (a : ℕ) → 0 < pair_live m₁ m₂ a → Sits (pair_span m₁ m₂) (a, pair_live m₁ m₂ a)
+    live_sits a h =
         by_share m₁.span (both_fit m₁.span m₂.span) m₁.live m₂.live (Sits (pair_span m₁ m₂) (a, pair_live m₁ m₂ a)) a h
-        (λ l e. subst (λ (z : ℕ). Sits (pair_span m₁ m₂) (a, z)) (sym e) (first-sits (a, m₁.live a) (w₁.sits a (omega arith))))
-        (λ l p e. second-sits (a, pair_live m₁ m₂ a) (a - m₁.span, m₂.live (a - m₁.span)) p (omega arith) e (w₂.sits (a - m₁.span) (omega arith)))
+        (λ l e. subst (λ (z : ℕ). Sits (pair_span m₁ m₂) (a, z)) (sym e) (first_sits (a, m₁.live a) (w₁.sits a (omega arith))))
+        (λ l p e. second_sits (a, pair_live m₁ m₂ a) (a - m₁.span, m₂.live (a - m₁.span)) p (omega arith) e (w₂.sits (a - m₁.span) (omega arith)))
 
     live_apart : (a b : ℕ) → 0 < pair_live m₁ m₂ a → a < b → 0 < pair_live m₁ m₂ b → a + pair_live m₁ m₂ a ≤ b
     live_apart a b h l k' =
@@ -106,8 +106,8 @@ module _ (k : Kind) (choose : Choice) (picks : Picks choose) (m₁ m₂ : Meanin
         (λ lb _ eb. let z = w₂.apart (a - m₁.span) (b - m₁.span) (omega arith) (omega arith) (omega arith) in omega arith))
 
     -- an offered block lies apart from a live one: both are the first's, or both the second's, or they lie in two shares
-    live-unused : (n : ℕ) (b : Block) → pair_offer k choose m₁ m₂ n ≡ Ok b → (a : ℕ) → 0 < pair_live m₁ m₂ a → Apart b (a, pair_live m₁ m₂ a)
-    live-unused n b e a h =
+    live_unused : (n : ℕ) (b : Block) → pair_offer k choose m₁ m₂ n ≡ Ok b → (a : ℕ) → 0 < pair_live m₁ m₂ a → Apart b (a, pair_live m₁ m₂ a)
+    live_unused n b e a h =
         let side = by_share m₁.span (both_fit m₁.span m₂.span) m₁.live m₂.live (Apart b (a, pair_live m₁ m₂ a)) a h in
         by_offer (Apart b (a, pair_live m₁ m₂ a)) n b e
         (λ f. side
@@ -124,23 +124,23 @@ module _ (k : Kind) (choose : Choice) (picks : Picks choose) (m₁ m₂ : Meanin
         (λ (z : a - m₁.span + m₂.live (a - m₁.span) ≤ f.block.0). inr (omega arith))
         (w₂.unused n f.block f.offer (a - m₁.span) (omega arith))))
 
-    pub paired-lawful : Lawful (paired k choose m₁ m₂)
-    paired-lawful = record {
+    pub paired_lawful : Lawful (paired k choose m₁ m₂)
+    paired_lawful = record {
       kind = q;
       span_eighth = span_eighths (both_fit m₁.span m₂.span) m₁.span m₂.span w₁.span_eighth w₂.span_eighth;
       span_bound = span_fits (both_fit m₁.span m₂.span) m₁.span m₂.span refl w₁.span_bound;
-      sits = live-sits;
+      sits = live_sits;
       apart = live_apart;
-      offered = λ n b e. by_offer (Sits (pair_span m₁ m₂) b) n b e (λ f. first-sits b (w₁.offered n b f)) (λ f. second-sits b f.block f.opened f.at f.long (w₂.offered n f.block f.offer));
+      offered = λ n b e. by_offer (Sits (pair_span m₁ m₂) b) n b e (λ f. first_sits b (w₁.offered n b f)) (λ f. second_sits b f.block f.opened f.at f.long (w₂.offered n f.block f.offer));
       enough = λ n b e. by_offer (n ≤ b.1) n b e (λ f. w₁.enough n b f) (λ f. let l = f.long in let z = w₂.enough n f.block f.offer in omega arith);
-      unused = live-unused;
+      unused = live_unused;
       zero = refl;
       large = λ n h. admits_large 32768 k (λ z. choose z (first_offer m₁ z) (second_offer k m₁ m₂ z)) n (lit≤ tt) h;
       refused = λ n g e. admits_refused 32768 k (λ z. choose z (first_offer m₁ z) (second_offer k m₁ m₂ z)) n q (refusal n) g e;
     }
 
 pub segregated_lawful : (t : ℕ) (m₁ m₂ : Meaning) → Lawful m₁ → Lawful m₂ → Lawful (segregated t m₁ m₂)
-segregated_lawful t m₁ m₂ = paired-lawful SegregatorK (by_size t) (by_size_picks t) m₁ m₂ (lit≤ tt, lit≤ tt)
+segregated_lawful t m₁ m₂ = paired_lawful SegregatorK (by_size t) (by_size_picks t) m₁ m₂ (lit≤ tt, lit≤ tt)
 
 pub fallen_back_lawful : (m₁ m₂ : Meaning) → Lawful m₁ → Lawful m₂ → Lawful (fallen_back m₁ m₂)
-fallen_back_lawful m₁ m₂ = paired-lawful FallbackK by_refusal by_refusal_picks m₁ m₂ (lit≤ tt, lit≤ tt)
+fallen_back_lawful m₁ m₂ = paired_lawful FallbackK by_refusal by_refusal_picks m₁ m₂ (lit≤ tt, lit≤ tt)

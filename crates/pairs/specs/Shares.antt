@@ -32,16 +32,16 @@ module _ (s : ℕ) (o : Bool) (f g : ℕ → ℕ) where
   -- Of a first heap whose blocks lie below s.
   module _ (bound : (b : ℕ) → 0 < f b → b + f b ≤ s) where
     -- so is an address in a block
-    pub in-share : (C : Type 0) (a x : ℕ) → In a (side_by_side s o f g a) x → (x < s → In a (f a) x → C) → (s ≤ x → o ≡ true → In (a - s) (g (a - s)) (x - s) → C) → C
-    in-share C a x i first second =
+    pub in_share : (C : Type 0) (a x : ℕ) → In a (side_by_side s o f g a) x → (x < s → In a (f a) x → C) → (s ≤ x → o ≡ true → In (a - s) (g (a - s)) (x - s) → C) → C
+    in_share C a x i first second =
         let lo = i.from in
         let hi = i.below in
         by_share C a (omega arith)
         (λ l e. let t = bound a (omega arith) in first (omega arith) (record { from = lo; below = omega arith }))
         (λ l p e. second (omega arith) p (record { from = omega arith; below = omega arith }))
 
-    pub covered-high : (a c : ℕ) → s ≤ a → o ≡ true → Covered (side_by_side s o f g) a c → Covered g (a - s) c
-    covered-high a c l p k =
+    pub covered_high : (a c : ℕ) → s ≤ a → o ≡ true → Covered (side_by_side s o f g) a c → Covered g (a - s) c
+    covered_high a c l p k =
         let kf = k.from in
         let kt = k.to in
         ⊎_elim
@@ -52,17 +52,17 @@ module _ (s : ℕ) (o : Bool) (f g : ℕ → ℕ) where
         (λ q _ e. record { start = k.start - s; from = omega arith; to = omega arith }))
         (cases_eq c 0)
 
-    pub covered-shut : (a c : ℕ) → s ≤ a → o ≡ false → 0 < c → Covered (side_by_side s o f g) a c → ⊥
-    covered-shut a c l p z k =
+    pub covered_shut : (a c : ℕ) → s ≤ a → o ≡ false → 0 < c → Covered (side_by_side s o f g) a c → ⊥
+    covered_shut a c l p z k =
         let kf = k.from in
         let kt = k.to in
         by_share ⊥ k.start (omega arith) (λ q e. let t = bound k.start (omega arith) in omega arith) (λ q e _. both_ways o p e)
 
-    pub finds-none : (a : ℕ) → s ≤ a → o ≡ true → Finds g (a - s) None → Finds (side_by_side s o f g) a None
-    finds-none a l p none = λ b i. in-share ⊥ b a i (λ q _. omega arith) (λ _ _ j. none (b - s) j)
+    pub finds_none : (a : ℕ) → s ≤ a → o ≡ true → Finds g (a - s) None → Finds (side_by_side s o f g) a None
+    finds_none a l p none = λ b i. in_share ⊥ b a i (λ q _. omega arith) (λ _ _ j. none (b - s) j)
 
-    pub finds-shut : (a : ℕ) → s ≤ a → o ≡ false → Finds (side_by_side s o f g) a None
-    finds-shut a l p = λ b i. in-share ⊥ b a i (λ q _. omega arith) (λ _ e _. both_ways o p e)
+    pub finds_shut : (a : ℕ) → s ≤ a → o ≡ false → Finds (side_by_side s o f g) a None
+    finds_shut a l p = λ b i. in_share ⊥ b a i (λ q _. omega arith) (λ _ e _. both_ways o p e)
 
   pub covered_low : (a c : ℕ) → a < s → Covered (side_by_side s o f g) a c → Covered f a c
   covered_low a c l k = let kf = k.from in let kt = k.to in let e = low k.start (omega arith) in record { start = k.start; from = kf; to = omega arith }
@@ -97,7 +97,7 @@ pub frame : (s s' : ℕ) (o o' : Bool) (P : ℕ → Type 0) (f g y y' z z' : ℕ
     → ((b x : ℕ) → In b (f b) x → P x → y' x ≡ y x) → ((b x : ℕ) → In b (g b) x → P (s + x) → z' x ≡ z x)
     → (b x : ℕ) → In b (side_by_side s o f g b) x → P x → side_by_side s' o' y' z' x ≡ side_by_side s o y z x
 frame s s' o o' P f g y y' z z' es eo bound first second b x i p =
-    in-share s o f g bound (side_by_side s' o' y' z' x ≡ side_by_side s o y z x) b x i
+    in_share s o f g bound (side_by_side s' o' y' z' x ≡ side_by_side s o y z x) b x i
     (λ l j. low s' o' y' z' x (omega arith) ∙ first b x j p ∙ sym (low s o y z x l))
     (λ l e j.
     let d : x - s' ≡ x - s = omega arith in

@@ -16,9 +16,9 @@ refused_on trace out out' f _ (two b fresh r) = (why trace out f r.replays.0, r.
 refused_on trace out out' f _ (three a b c fresh₁ fresh₂ fresh₃ r) = (why trace out f r.replays.0, r.replays.2)
 
 pub refused : (trace out out' out'' : List ℕ) (f : Fault) (p : ℕ) (r : Result ℕ Fault) → OnPile trace out out' (Err f) p → Writes (refusal_text f) out' out'' r → Answers trace out out'' r
-refused trace out out' out'' f p r k w = by-cause r (refused_on trace out out' f p k).0 (subst (λ (z : List ℕ). Writes (refusal_text f) z out'' r) (refused_on trace out out' f p k).1 w)
+refused trace out out' out'' f p r k w = by_cause r (refused_on trace out out' f p k).0 (subst (λ (z : List ℕ). Writes (refusal_text f) z out'' r) (refused_on trace out out' f p k).1 w)
   where
-    by-cause : (r : Result ℕ Fault) → (recorded trace ≡ Err f) ⊎ (length out < 256) → Writes (refusal_text f) out out'' r → Answers trace out out'' r
-    by-cause (Ok n) (inl e) w = inr (f, e, w)
-    by-cause (Ok n) (inr l) w = absurd (let g = w.0 in let z : ⊥ = omega arith in z)
-    by-cause (Err g) e w = w
+    by_cause : (r : Result ℕ Fault) → (recorded trace ≡ Err f) ⊎ (length out < 256) → Writes (refusal_text f) out out'' r → Answers trace out out'' r
+    by_cause (Ok n) (inl e) w = inr (f, e, w)
+    by_cause (Ok n) (inr l) w = absurd (let g = w.0 in let z : ⊥ = omega arith in z)
+    by_cause (Err g) e w = w

@@ -132,12 +132,12 @@ load_bound ss h m k =
 pub stored_none : (m : Meaning) → Stored (replicate 256 Empty) [] m
 stored_none m = record {
   table = refl;
-  booked = λ i a c e. never a c (sym (all-empty i) ∙ e);
-  shaped = λ i a c e. never a c (sym (all-empty i) ∙ e);
+  booked = λ i a c e. never a c (sym (all_empty i) ∙ e);
+  shaped = λ i a c e. never a c (sym (all_empty i) ∙ e);
   slotted = λ a p. absurd (let z : ⊥ = omega arith in z);
-  single = λ i j a c d e f. never a c (sym (all-empty i) ∙ e);
+  single = λ i j a c d e f. never a c (sym (all_empty i) ∙ e);
   live = λ a p. absurd (let z : ⊥ = omega arith in z);
 }
   where
-    all-empty : (i : ℕ) → get_or (replicate 256 Empty) i Empty ≡ Empty
-    all-empty i = ⊎_elim (λ (l : i < 256). get_or-replicate 256 i Empty Empty l) (λ (l : 256 ≤ i). get_or_past (replicate 256 Empty) i Empty (omega arith)) (cases_lt i 256)
+    all_empty : (i : ℕ) → get_or (replicate 256 Empty) i Empty ≡ Empty
+    all_empty i = ⊎_elim (λ (l : i < 256). get_or-replicate 256 i Empty Empty l) (λ (l : 256 ≤ i). get_or_past (replicate 256 Empty) i Empty (omega arith)) (cases_lt i 256)

@@ -32,12 +32,12 @@ piled frames f fs p r q begins e t w =
 -- the actions of frames that passed are those among them
 actions_all : (k : ℕ) (fs : List Frame) (xs : List Action) → actions_from k fs ≡ Ok xs → actions_in fs ≡ xs
 actions_all k [] xs e = cc
-actions_all k (f ∷ fs) xs e = by-action (action_of f) refl (actions_from (k + 1) fs) (actions_all (k + 1) fs) e
+actions_all k (f ∷ fs) xs e = by_action (action_of f) refl (actions_from (k + 1) fs) (actions_all (k + 1) fs) e
   where
-    by-action : (r : Result Action Cause) → action_of f ≡ r → (q : Result (List Action) Fault) → ((ys : List Action) → q ≡ Ok ys → actions_in fs ≡ ys) → and_then (at_frame k r) (λ a. and_then q (λ rest. Ok (a ∷ rest))) ≡ Ok xs → listed (action_of f) ++ actions_in fs ≡ xs
-    by-action (Ok a) u (Ok rest) v w = ap (λ (z : Result Action Cause). listed z ++ actions_in fs) u ∙ ap (λ (z : List Action). a ∷ z) (v rest refl) ∙ (cc)
-    by-action (Ok a) u (Err g) v w = absurd (let z : ◌≡◌ {A = ℕ} 0 1 = cc in let y : ⊥ = omega arith in y)
-    by-action (Err c) u q v w = absurd (let z : ◌≡◌ {A = ℕ} 0 1 = cc in let y : ⊥ = omega arith in y)
+    by_action : (r : Result Action Cause) → action_of f ≡ r → (q : Result (List Action) Fault) → ((ys : List Action) → q ≡ Ok ys → actions_in fs ≡ ys) → and_then (at_frame k r) (λ a. and_then q (λ rest. Ok (a ∷ rest))) ≡ Ok xs → listed (action_of f) ++ actions_in fs ≡ xs
+    by_action (Ok a) u (Ok rest) v w = ap (λ (z : Result Action Cause). listed z ++ actions_in fs) u ∙ ap (λ (z : List Action). a ∷ z) (v rest refl) ∙ (cc)
+    by_action (Ok a) u (Err g) v w = absurd (let z : ◌≡◌ {A = ℕ} 0 1 = cc in let y : ⊥ = omega arith in y)
+    by_action (Err c) u q v w = absurd (let z : ◌≡◌ {A = ℕ} 0 1 = cc in let y : ⊥ = omega arith in y)
 
 -- a head asks for nothing
 head_idle : (f : Frame) (p : ℕ) → pile_of f ≡ Ok p → listed (action_of f) ≡ []
@@ -58,19 +58,19 @@ framed (f ∷ fs) x e = by_parts (pile_of f) refl (actions_from 1 fs) refl e
 
 -- a trace whose pile is told was recorded, and is short
 pub recorded_by : (bytes : List ℕ) (p : ℕ) → recorded_pile (recorded bytes) ≡ Ok p → (x : Recording) × (recorded bytes ≡ Ok x) × (x.pile ≡ p) × (actions_in (frames_of bytes) ≡ x.actions) × (length bytes ≤ 32766)
-recorded_by bytes p e = by-test (leb (length bytes) 32766 && eqb (length bytes % 6) 0) refl
+recorded_by bytes p e = by_test (leb (length bytes) 32766 && eqb (length bytes % 6) 0) refl
   where
     by_frames : recorded bytes ≡ recording_of (frames_of bytes) → length bytes ≤ 32766 → (r : Result Recording Fault) → recording_of (frames_of bytes) ≡ r → (x : Recording) × (recorded bytes ≡ Ok x) × (x.pile ≡ p) × (actions_in (frames_of bytes) ≡ x.actions) × (length bytes ≤ 32766)
     by_frames u few (Ok x) v = (x, u ∙ v, (let w : recorded_pile (Ok x) ≡ Ok p = sym (ap recorded_pile (u ∙ v)) ∙ e in cc), framed (frames_of bytes) x v, few)
     by_frames u few (Err f) v = absurd (let w : recorded_pile (Err f) ≡ Ok p = sym (ap recorded_pile (u ∙ v)) ∙ e in let z : ◌≡◌ {A = ℕ} 0 1 = cc in let y : ⊥ = omega arith in y)
 
-    by-test : (b : Bool) → (leb (length bytes) 32766 && eqb (length bytes % 6) 0) ≡ b → (x : Recording) × (recorded bytes ≡ Ok x) × (x.pile ≡ p) × (actions_in (frames_of bytes) ≡ x.actions) × (length bytes ≤ 32766)
-    by-test true t = by_frames (ap (λ (b : Bool). cond b (recording_of (frames_of bytes)) (Err bad_length)) t) (leb-true (length bytes) 32766 (and_parts _ _ t).0) (recording_of (frames_of bytes)) refl
-    by-test false t = absurd (let z : ◌≡◌ {A = ℕ} 0 1 = cc in let y : ⊥ = omega arith in y)
+    by_test : (b : Bool) → (leb (length bytes) 32766 && eqb (length bytes % 6) 0) ≡ b → (x : Recording) × (recorded bytes ≡ Ok x) × (x.pile ≡ p) × (actions_in (frames_of bytes) ≡ x.actions) × (length bytes ≤ 32766)
+    by_test true t = by_frames (ap (λ (b : Bool). cond b (recording_of (frames_of bytes)) (Err bad_length)) t) (leb-true (length bytes) 32766 (and_parts _ _ t).0) (recording_of (frames_of bytes)) refl
+    by_test false t = absurd (let z : ◌≡◌ {A = ℕ} 0 1 = cc in let y : ⊥ = omega arith in y)
 
 -- the pile that is recorded is the number of the first frame, from 1 to 3
 pub recorded_head : (bytes : List ℕ) (x : Recording) → recorded bytes ≡ Ok x → (f : Frame) × (fs : List Frame) × (frames_of bytes ≡ f ∷ fs) × (x.pile ≡ f.number) × (1 ≤ x.pile) × (x.pile ≤ 3)
-recorded_head bytes x e = by-test (leb (length bytes) 32766 && eqb (length bytes % 6) 0) refl
+recorded_head bytes x e = by_test (leb (length bytes) 32766 && eqb (length bytes % 6) 0) refl
   where
     by_parts : (f : Frame) (fs : List Frame) (r : Result ℕ Cause) → pile_of f ≡ r → (q : Result (List Action) Fault) → and_then (at_frame 0 r) (λ p. and_then q (λ rest. Ok (record { pile = p; actions = rest }))) ≡ Ok x → pile_of f ≡ Ok x.pile
     by_parts f fs (Ok p) u (Ok rest) w = u ∙ (cc)
@@ -84,6 +84,6 @@ recorded_head bytes x e = by-test (leb (length bytes) 32766 && eqb (length bytes
     by_frames [] u w = absurd (let z : ◌≡◌ {A = ℕ} 0 1 = cc in let y : ⊥ = omega arith in y)
     by_frames (f ∷ fs) u w = let n = numbered f x.pile (by_parts f fs (pile_of f) refl (actions_from 1 fs) w) in (f, fs, u, n.0, n.1, n.2)
 
-    by-test : (b : Bool) → (leb (length bytes) 32766 && eqb (length bytes % 6) 0) ≡ b → (f : Frame) × (fs : List Frame) × (frames_of bytes ≡ f ∷ fs) × (x.pile ≡ f.number) × (1 ≤ x.pile) × (x.pile ≤ 3)
-    by-test true t = by_frames (frames_of bytes) refl (sym (ap (λ (b : Bool). cond b (recording_of (frames_of bytes)) (Err bad_length)) t) ∙ e)
-    by-test false t = absurd (let z : ◌≡◌ {A = ℕ} 0 1 = cc in let y : ⊥ = omega arith in y)
+    by_test : (b : Bool) → (leb (length bytes) 32766 && eqb (length bytes % 6) 0) ≡ b → (f : Frame) × (fs : List Frame) × (frames_of bytes ≡ f ∷ fs) × (x.pile ≡ f.number) × (1 ≤ x.pile) × (x.pile ≤ 3)
+    by_test true t = by_frames (frames_of bytes) refl (sym (ap (λ (b : Bool). cond b (recording_of (frames_of bytes)) (Err bad_length)) t) ∙ e)
+    by_test false t = absurd (let z : ◌≡◌ {A = ℕ} 0 1 = cc in let y : ⊥ = omega arith in y)

@@ -6,7 +6,7 @@ use Rattle.heap.specs.Checks.{checked_fill}
 use Rattle.heap.proofs.Checked.{fill_some, fill_covered, fill_checked}
 use Rattle.boundary_tag.specs.Chunks.{live_in, chunks, tag_means}
 use Rattle.boundary_tag.specs.Laws.{tag_lawful, covered_region}
-use Rattle.boundary_tag.proofs.Calls.{painted-paint}
+use Rattle.boundary_tag.proofs.Calls.{painted_paint}
 use Rattle.boundary_tag.proofs.blocks.fill_in.Goals as goal
 
 pub returns : goal.returns
@@ -18,7 +18,7 @@ returns c =
     let z : 0 < n = fill_some TagK (tag_means xs) (tag_lawful xs) a c.find_at.result c.find_at.ensures n ok in
     let k : Covered (live_in (chunks xs) 0) a n = fill_covered TagK (tag_means xs) (tag_lawful xs) a c.find_at.result c.find_at.ensures n ok in
     let p = c.paint.ensures.inside (covered_region xs a n z k) in
-    record { answer = (z, ∣ k ∣₁); after = painted-paint xs c.paint.new.region a n c.args.b z k p }
+    record { answer = (z, ∣ k ∣₁); after = painted_paint xs c.paint.new.region a n c.args.b z k p }
 
 pub returns-in_err-check_fill : goal.returns-in_err-check_fill
 returns-in_err-check_fill c =

@@ -1,6 +1,6 @@
 use Rattle.std.proofs.Common.{sym}
 use Rattle.bump.specs.Laws.{fresh}
-use Rattle.bump.proofs.Calls.{bump-granted, keeps_granted}
+use Rattle.bump.proofs.Calls.{bump_granted, keeps_granted}
 use Rattle.bump.proofs.BumpHeap.allocate.Goals as goal
 
 pub returns : goal.returns
@@ -13,6 +13,6 @@ returns c =
     let f = fresh xs cursor c.args.n b (sym e.answer) in
     record {
       answer = e.answer;
-      after = bump-granted xs ys cursor c.args.n b f e.after;
+      after = bump_granted xs ys cursor c.args.n b f e.after;
       kept = λ from h k. keeps_granted xs ys cursor c.args.n b f e.after from.region.now from.cursor h k;
     }

@@ -6,7 +6,7 @@ use Rattle.heap.specs.Checks.{checked_fill}
 use Rattle.heap.proofs.Checked.{fill_some, fill_covered, fill_checked}
 use Rattle.bump.specs.Table.{live_in, table, bump_means}
 use Rattle.bump.specs.Laws.{bump_lawful, covered_region}
-use Rattle.bump.proofs.Calls.{painted-paint}
+use Rattle.bump.proofs.Calls.{painted_paint}
 use Rattle.bump.proofs.blocks.fill_in.Goals as goal
 
 pub returns : goal.returns
@@ -19,7 +19,7 @@ returns c =
     let z : 0 < n = fill_some BumpK (bump_means xs cursor) (bump_lawful xs cursor) a c.find_at.result c.find_at.ensures n ok in
     let k : Covered (live_in (table xs cursor) 0) a n = fill_covered BumpK (bump_means xs cursor) (bump_lawful xs cursor) a c.find_at.result c.find_at.ensures n ok in
     let p = c.paint.ensures.inside (covered_region xs cursor a n z k) in
-    record { answer = (z, ∣ k ∣₁); after = painted-paint xs c.paint.new.region cursor a n c.args.b z k p }
+    record { answer = (z, ∣ k ∣₁); after = painted_paint xs c.paint.new.region cursor a n c.args.b z k p }
 
 pub returns-in_err-check_fill : goal.returns-in_err-check_fill
 returns-in_err-check_fill c =

@@ -1,13 +1,13 @@
 use Rattle.std.proofs.Common.{sym, ◌∙◌, arith}
 use Rattle.bitmap.specs.Words.{bit_in}
-use Rattle.bitmap.specs.Rows.{scanned-more}
+use Rattle.bitmap.specs.Rows.{scanned_more}
 use Rattle.bitmap.proofs.maps.Maps.lowest_run.Goals as goal
 use Rattle.bitmap.proofs.maps.Maps.lowest_run.Goals.{else-run-wanted-via-then-run-wanted+else-not-continues, else-run-wanted-via-else-run-wanted}
 
 pub loop-i-preserved : goal.loop-i-preserved
 loop-i-preserved c =
     let m = c.args.self.now in
-    scanned-more (bit_in m.used) (bit_in m.first) c.args.cells c.args.wanted c.loop-i.i c.loop-i.run c.longer-run.result c.loop-i.invariant
+    scanned_more (bit_in m.used) (bit_in m.first) c.args.cells c.args.wanted c.loop-i.i c.loop-i.run c.longer-run.result c.loop-i.invariant
     (λ e. c.longer-run.ensures.used (c.has.ensures ∙ e))
     (λ e. c.longer-run.ensures.free (c.has.ensures ∙ e))
     (λ l. elim c.else-run-wanted.branch [

@@ -3,7 +3,7 @@ use Rattle.std.proofs.lemmas.Result.{err_from_is_err_and}
 use Rattle.heap.specs.declared.fault.Kind.TheVariants.{FreeList as FreeListK}
 use Rattle.heap.proofs.Lawful.{unchanged}
 use Rattle.heap.proofs.Checked.{fill_covered, fill_checked}
-use Rattle.heap.proofs.Offers.{own-fill}
+use Rattle.heap.proofs.Offers.{own_fill}
 use Rattle.free_list.specs.FreeLists.{unheld, free_listed}
 use Rattle.free_list.specs.FreeList.{listed}
 use Rattle.free_list.specs.Unheld.{covered_below}
@@ -26,7 +26,7 @@ returns g c =
     let v = free_listed_lawful L R held m g.R.Rounding.lawful (g.H.Meant.lawful s.below) in
     let i = fill_covered FreeListK (free_listed L R held m) v a c.covering.result c.covering.ensures n (sym c.in_ok-check_fill.ensures) in
     record {
-      answer = rw c.make_own.ensures (own-fill FreeListK m.kind (unheld held m.live) m.live a a n (covered_below held m.live a n) (λ _. i) r e.answer);
+      answer = rw c.make_own.ensures (own_fill FreeListK m.kind (unheld held m.live) m.live a a n (covered_below held m.live a n) (λ _. i) r e.answer);
       after = rw c.make_own.ensures (below_fills L R held m m' a n c.args.b r e.after);
       kept = λ from h k. rw c.make_own.ensures (below_fill_keeps R (listed from.held) (g.H.Meant.means from.below).live held m m' (λ q. g.H.Meant.keeps from.below q s.below) (λ q. g.H.Meant.keeps from.below q c.fill.new.self) h k a n c.args.b r e.after (e.kept from.below));
     }

@@ -4,7 +4,7 @@ use Rattle.heap.specs.Meaning.{Covered}
 use Rattle.heap.specs.Checks.{checked_fill}
 use Rattle.heap.proofs.Lawful.{unchanged}
 use Rattle.heap.proofs.Checked.{fill_some, fill_covered, fill_checked}
-use Rattle.heap.proofs.Offers.{own-fill, own_after_fill}
+use Rattle.heap.proofs.Offers.{own_fill, own_after_fill}
 use Rattle.layers.specs.Affixes.{affix_live, affixed}
 use Rattle.layers.specs.Affixed.{covered_outer, affixed_lawful, affixed_fills, whole_fills, sent_fill}
 use Rattle.std.proofs.lemmas.Result.{err_from_is_err_and}
@@ -24,7 +24,7 @@ returns g c =
     let e = c.fill.ensures in
     let r = c.fill.result in
     record {
-      answer = rw c.make_own.ensures (own-fill AffixK m.kind (affix_live m.live) m.live a a n (covered_outer m.live a n some) (λ _. i) r e.answer);
+      answer = rw c.make_own.ensures (own_fill AffixK m.kind (affix_live m.live) m.live a a n (covered_outer m.live a n some) (λ _. i) r e.answer);
       after = rw c.make_own.ensures (affixed_fills m _ w a n c.args.b r some i e.after);
       kept = λ from h k. rw (c.make_own.ensures, own_after_fill) (record {
         whole = λ q. whole_fills m _ w a n c.args.b r some i e.after (k.whole q);

@@ -2,9 +2,9 @@ use Rattle.std.proofs.Common.{ℕ, ◌-◌, ◌<◌, ◌≤◌, sym, ◌∙◌, 
 use Rattle.heap.specs.Meaning.{MayFill, Fills}
 use Rattle.heap.specs.Histories.{after_fill}
 use Rattle.heap.proofs.Agreeing.{fills_span}
-use Rattle.heap.proofs.Offers.{own-fill, own_after_fill}
+use Rattle.heap.proofs.Offers.{own_fill, own_after_fill}
 use Rattle.pairs.specs.Pairs.{both_fit, pair_live, sent_second}
-use Rattle.pairs.specs.Shares.{covered_low, low_covered, covered-high, high_covered}
+use Rattle.pairs.specs.Shares.{covered_low, low_covered, covered_high, high_covered}
 use Rattle.pairs.specs.Paired.{bounded}
 use Rattle.pairs.proofs.Calling.{filled_first, filled_second}
 use Rattle.pairs.proofs.Sent.{fill_first, fill_not_second, fill_not_first, fill_second, keeps_both}
@@ -25,7 +25,7 @@ returns-then-a-base g c =
     let e = c.fill.ensures in
     let r = c.fill.result in
     record {
-      answer = rw c.make_own.ensures (own-fill c.args.kind m₁.kind (pair_live m₁ m₂) m₁.live a a n (covered_low m₁.span o m₁.live m₂.live a n l) (low_covered m₁.span o m₁.live m₂.live a n l) r e.answer);
+      answer = rw c.make_own.ensures (own_fill c.args.kind m₁.kind (pair_live m₁ m₂) m₁.live a a n (covered_low m₁.span o m₁.live m₂.live a n l) (low_covered m₁.span o m₁.live m₂.live a n l) r e.answer);
       after = λ choose. rw c.make_own.ensures (filled_first c.args.kind choose m₁ _ m₂ (g.A.Meant.lawful s.first) m₁.kind a n b r e.answer e.after);
       kept = λ from h k.
           let is = k.span in
@@ -53,8 +53,8 @@ returns g c =
     let e = c.fill-2.ensures in
     let r = c.fill-2.result in
     record {
-      answer = rw c.make_own-2.ensures (own-fill c.args.kind m₂.kind (pair_live m₁ m₂) m₂.live a (a - m₁.span) n
-          (covered-high m₁.span o m₁.live m₂.live (bounded m₁ w) a n l p) (high_covered m₁.span o m₁.live m₂.live a n l p) r
+      answer = rw c.make_own-2.ensures (own_fill c.args.kind m₂.kind (pair_live m₁ m₂) m₂.live a (a - m₁.span) n
+          (covered_high m₁.span o m₁.live m₂.live (bounded m₁ w) a n l p) (high_covered m₁.span o m₁.live m₂.live a n l p) r
           (subst (λ (z : ℕ). MayFill m₂.kind m₂.live (a - z) n r) base e.answer));
       after = λ choose. rw c.make_own-2.ensures (filled_second c.args.kind choose m₁ m₂ _ w a n b r l p (subst (λ (z : ℕ). Fills (a - z) n b m₂ (g.B.Meant.means c.fill-2.new.self) r) base e.after));
       kept = λ from h k.

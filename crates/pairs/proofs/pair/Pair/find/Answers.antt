@@ -1,6 +1,6 @@
 use Rattle.std.proofs.Common.{ℕ, ◌-◌, None, sym, subst, arith}
 use Rattle.heap.specs.Meaning.{Finds}
-use Rattle.pairs.specs.Shares.{finds-none, finds-shut}
+use Rattle.pairs.specs.Shares.{finds_none, finds_shut}
 use Rattle.pairs.specs.Paired.{bounded}
 use Rattle.pairs.proofs.pair.Pair.find.Goals as goal
 
@@ -11,7 +11,7 @@ returns-then-not-is_open g c =
     let m₂ = g.B.Meant.means s.second in
     let e = c.span-base.ensures in
     let l = c.if-a-base.false in
-    finds-shut m₁.span _ m₁.live m₂.live (bounded m₁ (g.A.Meant.lawful s.first)) c.args.a (omega arith) (sym c.if-not-is_open.ensures)
+    finds_shut m₁.span _ m₁.live m₂.live (bounded m₁ (g.A.Meant.lawful s.first)) c.args.a (omega arith) (sym c.if-not-is_open.ensures)
 
 pub returns-in-None : goal.returns-in-None
 returns-in-None g c =
@@ -20,5 +20,5 @@ returns-in-None g c =
     let m₂ = g.B.Meant.means s.second in
     let e = c.span-base.ensures in
     let l = c.if-a-base.false in
-    finds-none m₁.span _ m₁.live m₂.live (bounded m₁ (g.A.Meant.lawful s.first)) c.args.a (omega arith) (sym c.if-not-is_open.ensures)
+    finds_none m₁.span _ m₁.live m₂.live (bounded m₁ (g.A.Meant.lawful s.first)) c.args.a (omega arith) (sym c.if-not-is_open.ensures)
     (subst (λ (z : ℕ). Finds m₂.live (c.args.a - z) None) e c.in-None.ensures)

@@ -2,7 +2,7 @@ use Rattle.std.proofs.Common.{ℕ, ◌-◌, ◌<◌, ◌≤◌, sym, subst, arit
 use Rattle.heap.specs.Meaning.{Gets}
 use Rattle.heap.proofs.Offers.{own_get}
 use Rattle.pairs.specs.Pairs.{both_fit, pair_live, pair_byte}
-use Rattle.pairs.specs.Shares.{low, high, covered_low, low_covered, covered-high, high_covered, covered-shut}
+use Rattle.pairs.specs.Shares.{low, high, covered_low, low_covered, covered_high, high_covered, covered_shut}
 use Rattle.pairs.specs.Paired.{bounded}
 use Rattle.pairs.proofs.pair.Pair.get.Goals as goal
 
@@ -26,7 +26,7 @@ returns-then-not-is_open g c =
     let m₂ = g.B.Meant.means s.second in
     let e = c.span-base.ensures in
     let l = c.if-a-base.false in
-    (covered-shut m₁.span (both_fit m₁.span m₂.span) m₁.live m₂.live (bounded m₁ (g.A.Meant.lawful s.first)) c.args.a 1 (omega arith) (sym c.if-not-is_open.ensures) (omega arith), c.new.ensures)
+    (covered_shut m₁.span (both_fit m₁.span m₂.span) m₁.live m₂.live (bounded m₁ (g.A.Meant.lawful s.first)) c.args.a 1 (omega arith) (sym c.if-not-is_open.ensures) (omega arith), c.new.ensures)
 
 pub returns : goal.returns
 returns g c =
@@ -41,5 +41,5 @@ returns g c =
     let p = sym c.if-not-is_open.ensures in
     let bound = bounded m₁ (g.A.Meant.lawful s.first) in
     rw c.make_own-2.ensures (own_get c.args.kind m₂.kind (pair_live m₁ m₂) m₂.live a (a - m₁.span) (pair_byte m₁ m₂) m₂.byte c.get-2.result
-    (covered-high m₁.span o m₁.live m₂.live bound a 1 l p) (high_covered m₁.span o m₁.live m₂.live a 1 l p) (sym (high m₁.span o m₁.byte m₂.byte a l p))
+    (covered_high m₁.span o m₁.live m₂.live bound a 1 l p) (high_covered m₁.span o m₁.live m₂.live a 1 l p) (sym (high m₁.span o m₁.byte m₂.byte a l p))
     (subst (λ (z : ℕ). Gets m₂.kind m₂.live m₂.byte (a - z) c.get-2.result) e c.get-2.ensures))
