@@ -9,7 +9,7 @@ use crate::fault::Fault;
 // The largest size that any heap takes.
 pub const LARGEST_SIZE: u32 = 32768;
 
-// What a heap means, and what it keeps. These stand apart from the calls, so that an `impl` for a heap over a lent region has only the two laws to prove by hand.
+// What a heap means, and what it keeps. These stand apart from the calls: in a trait without functions the two facts are members like the others, so that a layer's own may cite those of the heap below.
 pub trait Meant {
     // the heap's meaning to its client
     ghost means: { Self → Meaning };
