@@ -1,10 +1,10 @@
 -- One action of a replay, from the call that it makes on the heap.
-use Rattle.std.proofs.Common.{List, [], ◌∷◌, ◌++◌}
+use Rattle.std.proofs.Common.{[]}
 use Rattle.heap.specs.declared.calls.Call.{Call}
 use Rattle.heap.specs.declared.calls.Answer.{Answer}
 use Rattle.heap.specs.Meaning.{Meaning, Lawful}
 use Rattle.heap.specs.Histories.{History}
-use Rattle.heap.specs.Runs.{Answered, Ran, none, more, after_answer}
+use Rattle.heap.specs.Runs.{Answered, none, more, after_answer}
 use Rattle.trace.specs.declared.frame.Action.{Action}
 use Rattle.report.specs.declared.tally.Outcome.{Outcome}
 use Rattle.player.specs.declared.slots.Slot.{Slot}

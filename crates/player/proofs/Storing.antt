@@ -1,13 +1,12 @@
 -- The slots hold the blocks of the book, over each action of a replay.
-use Rattle.std.proofs.Common.{◌≡◌, ℕ, ◌+◌, ◌-◌, ◌*◌, ◌<◌, ◌≤◌, Bool, true, false, cond, eqb, ◌⊎◌, List, [], ◌∷◌, ◌++◌, length, get_or, set, replicate, Ok, Err, sum_by, sym, refl, ap, ◌∙◌, subst, inl, inr, ⊎_elim, arith, length-set}
+use Rattle.std.proofs.Common.{◌≡◌, ℕ, ◌+◌, ◌<◌, ◌≤◌, eqb, List, [], ◌∷◌, length, get_or, set, replicate, Ok, sum_by, sym, refl, ap, ◌∙◌, ⊎_elim, arith, length-set}
 use Rattle.std.specs.List.{AllByRecursion as All}
 use Rattle.std.proofs.ByRecursion.{All-from_get_or, sum_by_le}
-use Rattle.std.proofs.lemmas.List.{get_or-set_same, get_or-set_other, set-get_or, get_or_past, get_or-replicate}
+use Rattle.std.proofs.lemmas.List.{get_or-set_same, get_or-set_other, get_or_past, get_or-replicate}
 use Rattle.std.proofs.lemmas.List.Sums.{sum_by-set}
 use Rattle.std.proofs.lemmas.Bool.{cases_eq, cases_lt, cond-true, cond-false, eq-eqb, ne_eqb}
-use Rattle.heap.specs.Meaning.{Meaning, Lawful, Sits, Apart, Stays, Granted as GrantedTo, Freed as FreedFrom, Filled as FilledIn}
+use Rattle.heap.specs.Meaning.{Meaning, Lawful, Granted as GrantedTo, Freed as FreedFrom}
 use Rattle.heap.specs.Histories.{History, granted, freed, length_at}
-use Rattle.report.specs.declared.tally.Load.{Load}
 use Rattle.player.specs.declared.slots.Slot.{Slot}
 use Rattle.player.specs.declared.slots.Slot.TheVariants.{Empty, Held}
 use Rattle.player.specs.Replays.{Stored, slot_blocks, slot_bytes, load_in}

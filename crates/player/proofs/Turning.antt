@@ -1,5 +1,5 @@
 -- What one action does to the slots, the book and the load, by its turn.
-use Rattle.std.proofs.Common.{◌≡◌, ℕ, ◌+◌, ◌-◌, ◌<◌, ◌≤◌, List, [], ◌∷◌, ◌++◌, length, get_or, set, sum_by, sym, refl, ap, ◌∙◌, subst, arith}
+use Rattle.std.proofs.Common.{◌≡◌, ℕ, ◌+◌, ◌-◌, ◌<◌, List, [], ◌∷◌, ◌++◌, get_or, set, sum_by, sym, refl, ap, subst, arith}
 use Rattle.std.proofs.lemmas.List.{set-get_or}
 use Rattle.heap.specs.declared.calls.Step.{Step}
 use Rattle.heap.specs.Meaning.{Meaning, Lawful}
@@ -10,7 +10,6 @@ use Rattle.heap.specs.Runs.{Ran, none, more, after_steps}
 use Rattle.trace.specs.declared.frame.Action.{Action}
 use Rattle.trace.specs.Frames.{id_of}
 use Rattle.report.specs.declared.tally.Outcome.{Outcome}
-use Rattle.report.specs.declared.tally.Load.{Load}
 use Rattle.report.specs.Tallies.{load_after}
 use Rattle.player.specs.declared.slots.Slot.{Slot}
 use Rattle.player.specs.declared.slots.Slot.TheVariants.{Empty, Held}

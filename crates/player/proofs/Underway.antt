@@ -1,9 +1,9 @@
 -- A replay from its start, over one action more, to its end.
-use Rattle.std.proofs.Common.{◌≡◌, ℕ, ◌+◌, ◌*◌, ◌<◌, ◌≤◌, List, [], ◌∷◌, ◌++◌, length, get_or, set, Ok, Err, Result, sym, refl, ap, ◌∙◌, subst, arith}
-use Rattle.std.proofs.lemmas.List.{append_assoc, append-nil, length_push}
+use Rattle.std.proofs.Common.{◌≡◌, ℕ, ◌<◌, ◌≤◌, List, [], ◌∷◌, ◌++◌, length, get_or, set, Ok, Err, Result, sym, refl, ap, ◌∙◌, subst, arith}
+use Rattle.std.proofs.lemmas.List.{append_assoc, length_push}
 use Rattle.heap.specs.declared.fault.Cause.{Cause}
-use Rattle.heap.specs.Meaning.{Meaning, Lawful, NothingLive}
-use Rattle.heap.specs.Histories.{History, Booked}
+use Rattle.heap.specs.Meaning.{Meaning, Lawful}
+use Rattle.heap.specs.Histories.{History}
 use Rattle.heap.specs.Runs as runs
 use Rattle.heap.specs.Runs.{Ran, Promise, after_steps}
 use Rattle.heap.proofs.Runnings.{ran_promise}
@@ -24,7 +24,7 @@ use Rattle.report.specs.Lines.{report_text, checked_buffer, Writes}
 use Rattle.report.proofs.Tallying.{load_push}
 use Rattle.player.specs.declared.slots.Slot.{Slot}
 use Rattle.player.specs.declared.slots.Slot.TheVariants.{Empty}
-use Rattle.player.specs.Turns.{Played, none, more, no_blocks}
+use Rattle.player.specs.Turns.{none, more, no_blocks}
 use Rattle.player.specs.Replays.{Stored, load_in, Acted, Going, Replayed, Replays}
 use Rattle.player.proofs.Storing.{load_bound, stored_none}
 use Rattle.player.proofs.Turning.{stored_turned, load_turned, ran_append, after_append}

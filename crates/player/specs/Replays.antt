@@ -1,5 +1,5 @@
 -- What a replay owes: its outcomes, its calls on the heap, its slots and its report.
-use Rattle.std.specs.Prelude.{◌≡◌, ℕ, ◌<◌, ◌≤◌, ◌⊎◌, List, [], ◌∷◌, ◌++◌, length, Ok, Err, sum_by, Result, slice_index_or}
+use Rattle.std.specs.Prelude.{◌≡◌, ℕ, ◌<◌, ◌≤◌, ◌⊎◌, List, [], length, Ok, Err, sum_by, Result, slice_index_or}
 use Rattle.heap.specs.declared.fault.Fault.{Fault}
 use Rattle.heap.specs.declared.fault.Cause.TheVariants.{ReportBuffer}
 use Rattle.heap.specs.declared.fault.Kind.TheVariants.{Replay}

@@ -1,7 +1,7 @@
 // The report of a tally, in lines of upper-case hex.
 ghost use Rattle.std.specs.Prelude.{◌≡◌, ◌+◌, ◌*◌, ◌<◌, ◌≤◌, [], ◌∷◌, length};
 ghost use Rattle.std.specs.List.{flat_map};
-ghost use Rattle.report.specs.Lines.{digit as hex-digit, hex_byte, hex_field, line, kind_lines, first_line, report_text, refusal_text, laid, checked_buffer, Writes};
+ghost use Rattle.report.specs.Lines.{digit as hex_digit, hex_byte, hex_field, line, kind_lines, first_line, report_text, refusal_text, laid, checked_buffer, Writes};
 
 use crate::tally::Tally;
 use heap::fault::{Cause, Fault, Kind};
@@ -19,7 +19,7 @@ enum Field {
 
 fn digit(n: u8) -> u8
     requires { n < 16 }
-    ensures { result ≡ hex-digit n }
+    ensures { result ≡ hex_digit n }
 {
     if n < 10 { b'0' + n } else { b'A' + (n - 10) }
 }

@@ -1,10 +1,10 @@
-use Rattle.std.proofs.Common.{◌≡◌, ℕ, ◌+◌, ◌*◌, ◌<◌, ◌≤◌, List, [], ◌∷◌, ◌++◌, length, Ok, Err, sym, refl, ap, ◌∙◌, subst, arith}
+use Rattle.std.proofs.Common.{◌≡◌, ◌+◌, List, [], ◌∷◌, ◌++◌, length, Ok, Err, sym, refl, ap, ◌∙◌, subst, arith}
 use Rattle.std.proofs.lemmas.List.{append-nil, length_push}
 use Rattle.trace.specs.declared.frame.Frame.{Frame}
 use Rattle.trace.specs.declared.frame.Action.{Action}
 use Rattle.trace.specs.Frames.{frames_of}
 use Rattle.trace.specs.Recordings.{actions_in}
-use Rattle.player.specs.Replays.{Going, Replayed}
+use Rattle.player.specs.Replays.{Replayed}
 use Rattle.player.proofs.Underway.{actions_next, going_none, replayed}
 use Rattle.player.proofs.player.play.Goals as goal
 
