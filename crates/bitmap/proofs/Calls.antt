@@ -1,36 +1,18 @@
 -- What the calls of a bitmap heap do to its meaning, and what it keeps.
-use Rattle.std.proofs.Common.{◌≡◌, ℕ, ◌+◌, ◌-◌, ◌*◌, ◌/◌, ◌<◌, ◌≤◌, Bool, true, false, cond, eqb, List, ◌∷◌, length, Ok, Err, Option, Result, sym, refl, ap, ◌∙◌, subst, ⊎_elim, arith}
-use Rattle.heap.specs.declared.fault.Fault.{Fault}
+use Rattle.std.proofs.Common.{◌≡◌, ℕ, ◌+◌, ◌-◌, ◌*◌, ◌/◌, ◌<◌, ◌≤◌, Bool, true, false, cond, eqb, List, ◌∷◌, length, Ok, sym, refl, ap, ◌∙◌, subst, ⊎_elim, arith}
 use Rattle.heap.specs.declared.fault.Kind.TheVariants.{Bitmap as BitmapK}
 use Rattle.heap.specs.Faults.{and_then}
 use Rattle.heap.specs.Checks.{admitted}
-use Rattle.heap.specs.Meaning.{Block, Covered, Granted, Freed, Filled, Finds, Frees, MayFree, Same}
-use Rattle.heap.specs.Histories.{History, granted, freed, filled, relieved, length_at, after_free}
+use Rattle.heap.specs.Meaning.{Block, Covered, Granted, Freed, Filled}
+use Rattle.heap.specs.Histories.{History, granted, freed, filled, relieved, length_at}
 use Rattle.heap.proofs.Lawful.{offered_free}
 use Rattle.region.specs.Bytes.{Painted}
 use Rattle.bitmap.specs.Words.{inside}
-use Rattle.bitmap.specs.Cells.{Map, cells_of, cells_for, bitmap_live, bitmap_offer, bitmap_means, Marked, Unmarked, Release, Releases, BitmapKept, BitmapKeeps}
+use Rattle.bitmap.specs.Cells.{Map, cells_of, cells_for, bitmap_live, bitmap_offer, bitmap_means, Marked, Unmarked, BitmapKept, BitmapKeeps}
 use Rattle.bitmap.specs.Rows.{Lives, lives}
 use Rattle.bitmap.specs.Keeping.{says}
 use Rattle.bitmap.specs.Laws.{Fresh, fresh, bitmap_lawful, covered_span}
 use Rattle.bitmap.proofs.Changes.{mark_live, mark_covered, mark_begun, unmark_live, unmark_covered, unmark_begun}
-
--- an offer by the number of cells is the offer of the region
-pub offer_at : (xs : List ℕ) (u f : Map) (cells n : ℕ) (r : Result Block Fault) → cells ≡ cells_of (length xs) → r ≡ and_then (admitted 32768 BitmapK n) (bitmap_offer u f cells) → r ≡ (bitmap_means xs u f).offer n
-offer_at xs u f cells n r q e = e ∙ ap (λ (z : ℕ). and_then (admitted 32768 BitmapK n) (bitmap_offer u f z)) q
-
--- what find tells by the number of cells
-pub finds_at : (xs : List ℕ) (u f : Map) (cells a : ℕ) (r : Option Block) → cells ≡ cells_of (length xs) → Finds (bitmap_live u f cells) a r → Finds (bitmap_live u f (cells_of (length xs))) a r
-finds_at xs u f cells a r q e = subst (λ (z : ℕ). Finds (bitmap_live u f z) a r) q e
-
--- a refused call
-pub bitmap_same : (xs : List ℕ) (u f u' f' : Map) → u' ≡ u → f' ≡ f → Same (bitmap_means xs u f) (bitmap_means xs u' f')
-bitmap_same xs u f u' f' e g =
-    subst (λ (z : Map). Same (bitmap_means xs u f) (bitmap_means xs z f')) (sym e)
-    (subst (λ (z : Map). Same (bitmap_means xs u f) (bitmap_means xs u z)) (sym g) (record { kind = refl; span = refl; live = λ a. refl; byte = λ a x i. refl }, λ n. refl))
-
-pub keeps_same : (zs : List ℕ) (v g : Map) (h : History) (xs : List ℕ) (u f u' f' : Map) → u' ≡ u → f' ≡ f → BitmapKeeps zs v g h xs u f → BitmapKeeps zs v g h xs u' f'
-keeps_same zs v g h xs u f u' f' a b k = subst (λ (z : Map). BitmapKeeps zs v g h xs z f') (sym a) (subst (λ (z : Map). BitmapKeeps zs v g h xs u z) (sym b) k)
 
 -- an allocate
 module _ (xs ys : List ℕ) (u f u' f' : Map) (n : ℕ) (b : Block) (o : (bitmap_means xs u f).offer n ≡ Ok b) (m : Marked (b.0 / 64) (b.1 / 64) u f u' f') (p : Painted b.0 b.1 0 xs ys) where
@@ -100,74 +82,59 @@ module _ (xs ys : List ℕ) (u f u' f' : Map) (n : ℕ) (b : Block) (o : (bitmap
         (kept_granted h (subst (λ (z : ℕ). BitmapKept h u f (cells_of z)) (sym k.long) (k.kept c d)));
   }
 
--- a free
-module _ (xs : List ℕ) (u f u' f' : Map) (a : ℕ) where
-  module _ (r : Release (cells_of (length xs)) a u f u' f') where
-    abbrev count : ℕ
-    count = cells_of (length xs)
+-- a free, of the l bytes from a on
+module _ (xs : List ℕ) (u f u' f' : Map) (a l : ℕ) (is : bitmap_live u f (cells_of (length xs)) a ≡ l) (some : 0 < l) (m : Unmarked (a / 64) (l / 64) u f u' f') where
+  abbrev count : ℕ
+  count = cells_of (length xs)
 
-    old : Lives u f count a (bitmap_live u f count a)
-    old = lives u f count a r.was
+  old : Lives u f count a (bitmap_live u f count a)
+  old = lives u f count a (omega arith)
 
-    unmarks : Unmarked old.cell (old.end - old.cell) u f u' f'
-    unmarks =
-        let at = old.at in
-        let long = old.long in
-        let c : a / 64 ≡ old.cell = omega arith in
-        let l : bitmap_live u f count a / 64 ≡ old.end - old.cell = omega arith in
-        subst (λ (z : ℕ). Unmarked z (old.end - old.cell) u f u' f') c (subst (λ (z : ℕ). Unmarked (a / 64) z u f u' f') l r.unmarked)
+  unmarks : Unmarked old.cell (old.end - old.cell) u f u' f'
+  unmarks =
+      let at = old.at in
+      let long = old.long in
+      let c : a / 64 ≡ old.cell = omega arith in
+      let w : l / 64 ≡ old.end - old.cell = omega arith in
+      subst (λ (z : ℕ). Unmarked z (old.end - old.cell) u f u' f') c (subst (λ (z : ℕ). Unmarked (a / 64) z u f u' f') w m)
 
-    free_live : (x : ℕ) → bitmap_live u' f' count x ≡ cond (eqb x a) 0 (bitmap_live u f count x)
-    free_live x =
-        unmark_live u f u' f' count old.cell old.end old.starts old.runs unmarks x
-        ∙ ap (λ (z : ℕ). cond (eqb x z) 0 (bitmap_live u f count x)) (sym old.at)
+  free_live : (x : ℕ) → bitmap_live u' f' count x ≡ cond (eqb x a) 0 (bitmap_live u f count x)
+  free_live x =
+      unmark_live u f u' f' count old.cell old.end old.starts old.runs unmarks x
+      ∙ ap (λ (z : ℕ). cond (eqb x z) 0 (bitmap_live u f count x)) (sym old.at)
 
-    bitmap_freed : Freed a (bitmap_means xs u f) (bitmap_means xs u' f')
-    bitmap_freed = record { kind = refl; span = refl; live = free_live; byte = λ b x i. refl }
+  pub bitmap_freed : Freed a (bitmap_means xs u f) (bitmap_means xs u' f')
+  bitmap_freed = record { kind = refl; span = refl; live = free_live; byte = λ b x i. refl }
 
-    module _ (h : History) (k : BitmapKept h u f count) where
-      book_long : length_at h (64 * old.cell) ≡ 64 * (old.end - old.cell)
-      book_long = ap (length_at h) (sym old.at) ∙ sym (k.live a) ∙ old.long
+  module _ (h : History) (k : BitmapKept h u f count) where
+    book_long : length_at h (64 * old.cell) ≡ 64 * (old.end - old.cell)
+    book_long = ap (length_at h) (sym old.at) ∙ sym (k.live a) ∙ old.long
 
-      book_left : (x : ℕ) → length_at (freed a ∷ h) x ≡ cond (eqb x (64 * old.cell)) 0 (length_at h x)
-      book_left x = ap (λ (z : ℕ). cond (eqb x z) 0 (length_at h x)) old.at
+    book_left : (x : ℕ) → length_at (freed a ∷ h) x ≡ cond (eqb x (64 * old.cell)) 0 (length_at h x)
+    book_left x = ap (λ (z : ℕ). cond (eqb x z) 0 (length_at h x)) old.at
 
-      kept_freed : BitmapKept (freed a ∷ h) u' f' count
-      kept_freed = says (freed a ∷ h) u' f' count
-          (λ x.
-          r.unmarked.used x
-          ∙ ap (λ (z : ℕ). cond (inside (a / 64) (z / 64) x) false (u x)) (k.live a)
-          ∙ ap (λ (z : Bool). cond (inside (a / 64) (length_at h a / 64) x) false z) (k.used x))
-          (λ x.
-          r.unmarked.first x
-          ∙ ap (λ (z : ℕ). cond (inside (a / 64) (z / 64) x) false (f x)) (k.live a)
-          ∙ ap (λ (z : Bool). cond (inside (a / 64) (length_at h a / 64) x) false z) (k.first x))
-          (λ y. free_live y ∙ ap (λ (z : ℕ). cond (eqb y a) 0 z) (k.live y))
-          (unmark_covered u f u' f' count old.cell old.end old.starts old.runs unmarks (length_at h) (length_at (freed a ∷ h)) book_long book_left k.covered)
-          (unmark_begun u f u' f' count old.cell old.end old.starts old.runs unmarks (length_at h) (length_at (freed a ∷ h)) book_long book_left k.begun)
+    kept_freed : BitmapKept (freed a ∷ h) u' f' count
+    kept_freed = says (freed a ∷ h) u' f' count
+        (λ x.
+        m.used x
+        ∙ ap (λ (z : ℕ). cond (inside (a / 64) (z / 64) x) false (u x)) (sym is ∙ k.live a)
+        ∙ ap (λ (z : Bool). cond (inside (a / 64) (length_at h a / 64) x) false z) (k.used x))
+        (λ x.
+        m.first x
+        ∙ ap (λ (z : ℕ). cond (inside (a / 64) (z / 64) x) false (f x)) (sym is ∙ k.live a)
+        ∙ ap (λ (z : Bool). cond (inside (a / 64) (length_at h a / 64) x) false z) (k.first x))
+        (λ y. free_live y ∙ ap (λ (z : ℕ). cond (eqb y a) 0 z) (k.live y))
+        (unmark_covered u f u' f' count old.cell old.end old.starts old.runs unmarks (length_at h) (length_at (freed a ∷ h)) book_long book_left k.covered)
+        (unmark_begun u f u' f' count old.cell old.end old.starts old.runs unmarks (length_at h) (length_at (freed a ∷ h)) book_long book_left k.begun)
 
-    keeps_freed : (zs : List ℕ) (v g : Map) (h : History) → BitmapKeeps zs v g h xs u f → BitmapKeeps zs v g (freed a ∷ h) xs u' f'
-    keeps_freed zs v g h k = record {
-      long = k.long;
-      rest = k.rest;
-      kept = λ c d.
-          subst (λ (z : ℕ). BitmapKept (freed a ∷ h) u' f' (cells_of z)) k.long
-          (kept_freed h (subst (λ (z : ℕ). BitmapKept h u f (cells_of z)) (sym k.long) (k.kept c d)));
-    }
-
-  -- by the answer, and by the number of cells
-  module _ (cells : ℕ) (q : cells ≡ cells_of (length xs)) where
-    pub may_free : (r : Result (Unit {0}) Fault) → Releases cells a u f u' f' r → MayFree BitmapK (bitmap_live u f (cells_of (length xs))) a r
-    may_free (Ok t) s = let w = s.was in let e = ap (λ (z : ℕ). bitmap_live u f z a) q in omega arith
-    may_free (Err g) s = (sym (ap (λ (z : ℕ). bitmap_live u f z a) q) ∙ s.0, s.1)
-
-    pub bitmap_frees : (r : Result (Unit {0}) Fault) → Releases cells a u f u' f' r → Frees a (bitmap_means xs u f) (bitmap_means xs u' f') r
-    bitmap_frees (Ok t) s = bitmap_freed (subst (λ (z : ℕ). Release z a u f u' f') q s)
-    bitmap_frees (Err g) s = bitmap_same xs u f u' f' s.2 s.3
-
-    pub keeps_frees : (zs : List ℕ) (v g : Map) (h : History) (r : Result (Unit {0}) Fault) → Releases cells a u f u' f' r → BitmapKeeps zs v g h xs u f → BitmapKeeps zs v g (after_free a r h) xs u' f'
-    keeps_frees zs v g h (Ok t) s k = keeps_freed (subst (λ (z : ℕ). Release z a u f u' f') q s) zs v g h k
-    keeps_frees zs v g h (Err y) s k = keeps_same zs v g h xs u f u' f' s.2 s.3 k
+  pub keeps_freed : (zs : List ℕ) (v g : Map) (h : History) → BitmapKeeps zs v g h xs u f → BitmapKeeps zs v g (freed a ∷ h) xs u' f'
+  keeps_freed zs v g h k = record {
+    long = k.long;
+    rest = k.rest;
+    kept = λ c d.
+        subst (λ (z : ℕ). BitmapKept (freed a ∷ h) u' f' (cells_of z)) k.long
+        (kept_freed h (subst (λ (z : ℕ). BitmapKept h u f (cells_of z)) (sym k.long) (k.kept c d)));
+  }
 
 -- a fill
 module _ (xs ys : List ℕ) (u f : Map) (a c v : ℕ) (some : 0 < c) (k : Covered (bitmap_live u f (cells_of (length xs))) a c) (p : Painted a c v xs ys) where

@@ -1,10 +1,9 @@
 -- What becomes of the live blocks as cells are marked and unmarked.
-use Rattle.std.proofs.Common.{◌≡◌, ℕ, ◌+◌, ◌-◌, ◌*◌, ◌/◌, ◌%◌, ◌<◌, ◌≤◌, Bool, true, false, cond, not, ◌&&◌, eqb, ltb, ◌⊎◌, sym, refl, ap, ◌∙◌, inl, inr, ⊎_elim, arith}
+use Rattle.std.proofs.Common.{◌≡◌, ℕ, ◌+◌, ◌-◌, ◌*◌, ◌/◌, ◌%◌, ◌<◌, ◌≤◌, true, false, cond, eqb, ◌⊎◌, sym, ap, ◌∙◌, inl, inr, ⊎_elim, arith}
 use Rattle.heap.specs.Meaning.{Covered}
 use Rattle.std.proofs.lemmas.Bool.{both_ways, cond-true, cond-false, eq-eqb, ne_eqb, cases_eq, cases_lt, cases_Bool}
-use Rattle.bitmap.specs.Words.{inside}
 use Rattle.bitmap.specs.Cells.{Map, starts, goes_on, follow, Runs, bitmap_live, Fits, Marked, Unmarked}
-use Rattle.bitmap.proofs.Flips.{inside_yes, inside_before, inside_past}
+use Rattle.std.proofs.lemmas.Bool.Decides.{nat_tests}
 use Rattle.bitmap.specs.Rows.{follow_runs, live_is, live_none, live_odd, starts_yes, starts_free, starts_inner, on_yes, on_past, on_free, on_begun, on_used, on_or_starts}
 
 module _ (u f u' f' : Map) (cells : ℕ) where
@@ -36,33 +35,30 @@ module _ (u f u' f' : Map) (cells : ℕ) where
 
   -- a cell whose bits stayed
   stayed_starts : (x : ℕ) → u' x ≡ u x → f' x ≡ f x → starts u' f' cells x ≡ starts u f cells x
-  stayed_starts x e g = ap (λ (z : Bool). ltb x cells && (z && f' x)) e ∙ ap (λ (z : Bool). ltb x cells && (u x && z)) g
+  stayed_starts x e g = cc
 
   stayed_on : (x : ℕ) → u' x ≡ u x → f' x ≡ f x → goes_on u' f' cells x ≡ goes_on u f cells x
-  stayed_on x e g = ap (λ (z : Bool). ltb x cells && (z && not (f' x))) e ∙ ap (λ (z : Bool). ltb x cells && (u x && not z)) g
+  stayed_on x e g = cc
 
   -- a block that came
   module _ (i w : ℕ) (some : 0 < w) (k : Fits u f cells w i) (m : Marked i w u f u' f') where
     out_used : (x : ℕ) → (x < i) ⊎ (i + w ≤ x) → u' x ≡ u x
-    out_used x o = m.used x ∙ cond-false (inside i w x) true (u x) (⊎_elim (λ (l : x < i). inside_before i w x l) (λ (l : i + w ≤ x). inside_past i w x l) o)
+    out_used x o = let e = m.used x in grind (arith, nat_tests)
 
     out_first : (x : ℕ) → (x < i) ⊎ (i + w ≤ x) → f' x ≡ f x
-    out_first x o =
-        m.first x
-        ∙ cond-false (inside i 1 x) true (cond (inside i w x) false (f x)) (⊎_elim (λ (l : x < i). inside_before i 1 x l) (λ (l : i + w ≤ x). inside_past i 1 x (omega arith)) o)
-        ∙ cond-false (inside i w x) false (f x) (⊎_elim (λ (l : x < i). inside_before i w x l) (λ (l : i + w ≤ x). inside_past i w x l) o)
+    out_first x o = let e = m.first x in grind (arith, nat_tests)
 
     out_on : (x : ℕ) → (x < i) ⊎ (i + w ≤ x) → goes_on u' f' cells x ≡ goes_on u f cells x
     out_on x o = stayed_on x (out_used x o) (out_first x o)
 
     in_used : (x : ℕ) → i ≤ x → x < i + w → u' x ≡ true
-    in_used x l h = m.used x ∙ cond-true (inside i w x) true (u x) (inside_yes i w x l h)
+    in_used x l h = let e = m.used x in grind (arith, nat_tests)
 
     in_first : (x : ℕ) → i < x → x < i + w → f' x ≡ false
-    in_first x l h = m.first x ∙ cond-false (inside i 1 x) true (cond (inside i w x) false (f x)) (inside_past i 1 x (omega arith)) ∙ cond-true (inside i w x) false (f x) (inside_yes i w x (omega arith) h)
+    in_first x l h = let e = m.first x in grind (arith, nat_tests)
 
     at_first : f' i ≡ true
-    at_first = m.first i ∙ cond-true (inside i 1 i) true (cond (inside i w i) false (f i)) (inside_yes i 1 i (omega arith) (omega arith))
+    at_first = let e = m.first i in grind (arith, nat_tests)
 
     mark_here : bitmap_live u' f' cells (64 * i) ≡ 64 * w
     mark_here =
@@ -106,10 +102,10 @@ module _ (u f u' f' : Map) (cells : ℕ) where
     -- the book, with the block
     module _ (l l' : ℕ → ℕ) (none : l (64 * i) ≡ 0) (next : (x : ℕ) → l' x ≡ cond (eqb x (64 * i)) (64 * w) (l x)) where
       next_here : l' (64 * i) ≡ 64 * w
-      next_here = next (64 * i) ∙ cond-true (eqb (64 * i) (64 * i)) (64 * w) (l (64 * i)) (eq-eqb (64 * i) (64 * i) refl)
+      next_here = let e = next (64 * i) in grind (arith, nat_tests)
 
       next_there : (x : ℕ) → 0 < l x → l' x ≡ l x
-      next_there x h = next x ∙ cond-false (eqb x (64 * i)) (64 * w) (l x) (ne_eqb x (64 * i) (λ q. let z : l x ≡ 0 = ap l q ∙ none in omega arith))
+      next_there x h = let e = next x in grind (arith, nat_tests)
 
       pub mark_covered : ((x : ℕ) → u x ≡ true → Covered l (64 * x) 64) → (x : ℕ) → u' x ≡ true → Covered l' (64 * x) 64
       mark_covered old x e =
@@ -142,23 +138,20 @@ module _ (u f u' f' : Map) (cells : ℕ) where
 
   -- a block that ended
   module _ (i e : ℕ) (s : starts u f cells i ≡ true) (r : Runs (goes_on u f cells) (i + 1) e) (m : Unmarked i (e - i) u f u' f') where
-    gone_out : (x : ℕ) → (x < i) ⊎ (e ≤ x) → inside i (e - i) x ≡ false
-    gone_out x o = let from = r.from in ⊎_elim (λ (l : x < i). inside_before i (e - i) x l) (λ (l : e ≤ x). inside_past i (e - i) x (omega arith)) o
-
     gone_used : (x : ℕ) → (x < i) ⊎ (e ≤ x) → u' x ≡ u x
-    gone_used x o = m.used x ∙ cond-false (inside i (e - i) x) false (u x) (gone_out x o)
+    gone_used x o = let from = r.from in let e = m.used x in grind (arith, nat_tests)
 
     gone_first : (x : ℕ) → (x < i) ⊎ (e ≤ x) → f' x ≡ f x
-    gone_first x o = m.first x ∙ cond-false (inside i (e - i) x) false (f x) (gone_out x o)
+    gone_first x o = let from = r.from in let e = m.first x in grind (arith, nat_tests)
 
     gone_on : (x : ℕ) → (x < i) ⊎ (e ≤ x) → goes_on u' f' cells x ≡ goes_on u f cells x
     gone_on x o = stayed_on x (gone_used x o) (gone_first x o)
 
     now_free : (x : ℕ) → i ≤ x → x < e → u' x ≡ false
-    now_free x l h = m.used x ∙ cond-true (inside i (e - i) x) false (u x) (inside_yes i (e - i) x l (omega arith))
+    now_free x l h = let e = m.used x in grind (arith, nat_tests)
 
     now_none : (x : ℕ) → i ≤ x → x < e → f' x ≡ false
-    now_none x l h = m.first x ∙ cond-true (inside i (e - i) x) false (f x) (inside_yes i (e - i) x l (omega arith))
+    now_none x l h = let e = m.first x in grind (arith, nat_tests)
 
     unmark_there : (p : ℕ) → (p ≡ i → ⊥) → bitmap_live u' f' cells (64 * p) ≡ bitmap_live u f cells (64 * p)
     unmark_there p n =
@@ -192,7 +185,7 @@ module _ (u f u' f' : Map) (cells : ℕ) where
     -- the book, without the block
     module _ (l l' : ℕ → ℕ) (long : l (64 * i) ≡ 64 * (e - i)) (next : (x : ℕ) → l' x ≡ cond (eqb x (64 * i)) 0 (l x)) where
       left : (x : ℕ) → (x ≡ 64 * i → ⊥) → l' x ≡ l x
-      left x n = next x ∙ cond-false (eqb x (64 * i)) 0 (l x) (ne_eqb x (64 * i) n)
+      left x n = let e = next x in grind (arith, nat_tests)
 
       pub unmark_covered : ((x : ℕ) → u x ≡ true → Covered l (64 * x) 64) → (x : ℕ) → u' x ≡ true → Covered l' (64 * x) 64
       unmark_covered old x t =

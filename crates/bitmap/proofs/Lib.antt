@@ -1,3 +1,4 @@
 pub mod Flips
+pub mod Searches
 pub mod Changes
 pub mod Calls

@@ -9,7 +9,7 @@ use Rattle.bitmap.specs.Laws.{sound_lowest}
 use Rattle.std.proofs.lemmas.Bool.{cases_eq, cases_Bool}
 
 -- with clear maps there are no blocks
-clear_live : (u f : Map) (cells : ℕ) → ((x : ℕ) → u x ≡ false) → (a : ℕ) → bitmap_live u f cells a ≡ 0
+pub clear_live : (u f : Map) (cells : ℕ) → ((x : ℕ) → u x ≡ false) → (a : ℕ) → bitmap_live u f cells a ≡ 0
 clear_live u f cells e a =
     ⊎_elim
     (λ (m : a % 64 ≡ 0). let at : a ≡ 64 * (a / 64) = omega arith in ap (bitmap_live u f cells) at ∙ live_none u f cells (a / 64) (starts_free u f cells (a / 64) (e (a / 64))))

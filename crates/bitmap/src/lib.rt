@@ -1,25 +1,26 @@
 // A bitmap heap: it hands out whole cells of a lent region, and knows by two maps which cells are used and which begin a block.
 #![tactic(auto)]
 
-ghost use Rattle.std.specs.Prelude.{◌≡◌, ℕ, false};
+ghost use Rattle.std.specs.Prelude.{◌≡◌, ℕ, false, length};
 ghost use Rattle.heap.specs.Meaning.{NothingLive};
 ghost use Rattle.bitmap.specs.Words.{bit_in};
-ghost use Rattle.bitmap.specs.Cells.{bitmap_means, BitmapKeeps};
+ghost use Rattle.bitmap.specs.Cells.{cells_of, bitmap_means, BitmapKeeps};
 ghost use Rattle.bitmap.specs.Laws.{bitmap_lawful};
 ghost use Rattle.bitmap.specs.Keeping.{bitmap_begins};
 
-mod blocks;
+mod bits;
 mod maps;
-mod words;
 
-use crate::blocks::{count_cells, offer, release, take};
-use crate::maps::{CELL, Maps};
-use heap::checks::{check_fill, check_get};
-use heap::fault::{Fault, Kind};
-use heap::interface::{Heap, Meant};
+use crate::maps::Maps;
+use heap::checks::{admit, begun_at, check_fill, check_free, check_get};
+use heap::fault::{Cause, Fault, Kind};
+use heap::interface::{Heap, LARGEST_SIZE, Meant};
 use region::paint;
 
-// Blocks are whole cells of 64 bytes; the maps have one bit for each cell.
+// The length of a cell in bytes.
+const CELL: u32 = 64;
+
+// Blocks are whole cells; the maps have one bit for each cell.
 #[derive(Drop)]
 pub struct Bitmap<'r> {
     region: &'r mut [u8],
@@ -29,64 +30,81 @@ pub struct Bitmap<'r> {
 impl<'r> Bitmap<'r> {
     pub fn new(region: &'r mut [u8]) -> Bitmap<'r>
         ensures region { result.region.now ≡ region.old }
-        ensures used { (x : ℕ) → bit_in result.maps.used x ≡ false }
-        ensures first { (x : ℕ) → bit_in result.maps.first x ≡ false }
-        ensures nothing { NothingLive (bitmap_means result.region.now (bit_in result.maps.used) (bit_in result.maps.first)) }
+        ensures used { (x : ℕ) → bit_in result.maps.used.words x ≡ false }
+        ensures first { (x : ℕ) → bit_in result.maps.first.words x ≡ false }
+        ensures nothing { NothingLive (bitmap_means result.region.now (bit_in result.maps.used.words) (bit_in result.maps.first.words)) }
     {
-        Bitmap {
-            region,
-            maps: Maps::new(),
-        }
+        let maps = Maps::default();
+        Bitmap { region, maps }
+    }
+
+    // How many whole cells fit into the first 65,536 bytes of the region.
+    fn cells(&self) -> u32
+        ensures { result ≡ cells_of (length self.now.region.now) }
+    {
+        self.region.len().min(65536) as u32 / CELL
     }
 }
 
 impl<'r> Meant for Bitmap<'r> {
-    ghost means = { λ s. bitmap_means s.region.now (bit_in s.maps.used) (bit_in s.maps.first) };
+    ghost means = { λ s. bitmap_means s.region.now (bit_in s.maps.used.words) (bit_in s.maps.first.words) };
 
-    ghost keeps = { λ from h s. BitmapKeeps from.region.now (bit_in from.maps.used) (bit_in from.maps.first) h s.region.now (bit_in s.maps.used) (bit_in s.maps.first) };
+    ghost keeps = { λ from h s. BitmapKeeps from.region.now (bit_in from.maps.used.words) (bit_in from.maps.first.words) h s.region.now (bit_in s.maps.used.words) (bit_in s.maps.first.words) };
 
-    ghost lawful = { λ s. bitmap_lawful s.region.now (bit_in s.maps.used) (bit_in s.maps.first) };
+    ghost lawful = { λ s. bitmap_lawful s.region.now (bit_in s.maps.used.words) (bit_in s.maps.first.words) };
 
-    ghost begins = { λ s. bitmap_begins s.region.now (bit_in s.maps.used) (bit_in s.maps.first) };
+    ghost begins = { λ s. bitmap_begins s.region.now (bit_in s.maps.used.words) (bit_in s.maps.first.words) };
 }
 
 impl<'r> Heap for Bitmap<'r> {
     fn span(&self) -> u32 {
-        CELL * count_cells(self.region.len())
+        CELL * self.cells()
     }
 
     fn offer(&self, n: u32) -> Result<(u32, u32), Fault> {
-        offer(&self.maps, count_cells(self.region.len()), n)
+        let wanted = admit(n, LARGEST_SIZE, Kind::Bitmap)?.div_ceil(CELL);
+        self.maps
+            .lowest_run(self.cells(), wanted)
+            .map(|i| (CELL * i, CELL * wanted))
+            .ok_or_else(|| Fault::new(Cause::Full, Kind::Bitmap, n))
     }
 
     fn find(&self, a: u32) -> Option<(u32, u32)> {
-        self.maps.find(count_cells(self.region.len()), a)
+        let cells = self.cells();
+        let cell = a / CELL;
+        if cell >= cells {
+            return None;
+        }
+        let start = self.maps.back(cell);
+        if !self.maps.begins(start) {
+            return None;
+        }
+        let end = self.maps.ahead(cells, start + 1);
+        Some((CELL * start, CELL * (end - start)))
     }
 
+    // The tests of get and fill are shared; what is left of either is one access, no shorter in a function for all bottoms.
     fn get(&self, a: u32) -> Result<u8, Fault> {
-        check_get(
-            self.maps.find(count_cells(self.region.len()), a),
-            a,
-            Kind::Bitmap,
-        )?;
+        check_get(self.find(a), a, Kind::Bitmap)?;
         Ok(self.region[a as usize])
     }
 
     fn allocate(&mut self, n: u32) -> Result<(u32, u32), Fault> {
-        let cells = count_cells(self.region.len());
-        let block = take(&mut self.maps, cells, n)?;
-        paint(self.region, block.0, block.1, 0);
-        Ok(block)
+        let (start, length) = self.offer(n)?;
+        self.maps.mark(start / CELL, length / CELL);
+        paint(self.region, start, length, 0);
+        Ok((start, length))
     }
 
     fn free(&mut self, a: u32) -> Result<(), Fault> {
-        let cells = count_cells(self.region.len());
-        release(&mut self.maps, cells, a)
+        let found = self.find(a);
+        check_free(found, a, Kind::Bitmap)?;
+        self.maps.unmark(a / CELL, begun_at(found, a) / CELL);
+        Ok(())
     }
 
     fn fill(&mut self, a: u32, c: u32, b: u8) -> Result<(), Fault> {
-        let cells = count_cells(self.region.len());
-        check_fill(self.maps.find(cells, a), a, c, Kind::Bitmap)?;
+        check_fill(self.find(a), a, c, Kind::Bitmap)?;
         paint(self.region, a, c, b);
         Ok(())
     }

@@ -1,17 +1,9 @@
 // Bitmap heaps on small and odd regions.
+use crate::faults::full;
 use bitmap::Bitmap;
-use heap::fault::{Cause, Fault, Kind};
+use heap::fault::Kind;
 use heap::interface::Heap;
 use std::process::Abort;
-
-fn full(place: u32) -> Fault {
-    Fault {
-        cause: Cause::Full,
-        kind: Kind::Bitmap,
-        down: 0,
-        place,
-    }
-}
 
 // Two cells: one is taken, 65 bytes would take two, one byte takes the other.
 #[test]
@@ -19,10 +11,10 @@ fn two_cells(rt: HostRuntime) {
     let mut region = [255u8; 128];
     let mut heap = Bitmap::new(&mut region);
     assert_eq!(rt; heap.allocate(64), Ok((0, 64)));
-    assert_eq!(rt; heap.allocate(65), Err(full(65)));
+    assert_eq!(rt; heap.allocate(65), Err(full(Kind::Bitmap, 65)));
     assert_eq!(rt; heap.allocate(1), Ok((64, 64)));
     assert_eq!(rt; heap.get(127), Ok(0));
-    assert_eq!(rt; heap.allocate(1), Err(full(1)));
+    assert_eq!(rt; heap.allocate(1), Err(full(Kind::Bitmap, 1)));
     assert_eq!(rt; heap.free(0), Ok(()));
     assert!(rt; heap.free(0).is_err());
     assert_eq!(rt; heap.find(63), None);

@@ -4,4 +4,6 @@
 #[cfg(test)]
 mod bitmap_cases;
 #[cfg(test)]
+mod faults;
+#[cfg(test)]
 mod tag_cases;

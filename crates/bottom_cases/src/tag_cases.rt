@@ -1,18 +1,10 @@
 // Boundary tag heaps on small and odd regions.
+use crate::faults::full;
 use boundary_tag::BoundaryTag;
 use heap::fault::{Cause, Fault, Kind};
 use heap::interface::Heap;
 use layers::affix::Affix;
 use std::process::Abort;
-
-fn full(place: u32) -> Fault {
-    Fault {
-        cause: Cause::Full,
-        kind: Kind::BoundaryTag,
-        down: 0,
-        place,
-    }
-}
 
 // Two chunks fill 64 bytes; once both are freed they are one again.
 #[test]
@@ -21,7 +13,7 @@ fn two_chunks(rt: HostRuntime) {
     let mut heap = BoundaryTag::new(&mut region);
     assert_eq!(rt; heap.allocate(16), Ok((8, 16)));
     assert_eq!(rt; heap.allocate(16), Ok((40, 16)));
-    assert_eq!(rt; heap.allocate(1), Err(full(1)));
+    assert_eq!(rt; heap.allocate(1), Err(full(Kind::BoundaryTag, 1)));
     assert_eq!(rt; heap.get(23), Ok(0));
     assert!(rt; heap.get(24).is_err());
     assert_eq!(rt; heap.free(8), Ok(()));
@@ -36,7 +28,7 @@ fn rest_of_a_chunk(rt: HostRuntime) {
     let heap = BoundaryTag::new(&mut region);
     assert_eq!(rt; heap.offer(24), Ok((8, 24)));
     assert_eq!(rt; heap.offer(32), Ok((8, 48)));
-    assert_eq!(rt; heap.offer(49), Err(full(49)));
+    assert_eq!(rt; heap.offer(49), Err(full(Kind::BoundaryTag, 49)));
 }
 
 // A free joins its chunk with the free ones before and behind it.
@@ -75,7 +67,7 @@ fn small_regions(rt: &impl Abort, region: &mut [u8]) {
         let heap = BoundaryTag::new(&mut region[0..n]);
         if span < 24 {
             assert_eq!(rt; heap.span(), 0);
-            assert_eq!(rt; heap.offer(1), Err(full(1)));
+            assert_eq!(rt; heap.offer(1), Err(full(Kind::BoundaryTag, 1)));
         } else {
             assert_eq!(rt; heap.span() as usize, span);
             assert!(rt; heap.offer(1).is_ok());

@@ -1,8 +1,9 @@
 -- A grant: a free chunk in its place is made live, and what remains of it stays free.
-use Rattle.std.proofs.Common.{◌≡◌, ℕ, ◌+◌, ◌-◌, ◌%◌, ◌<◌, ◌≤◌, cond, eqb, List, [], ◌∷◌, ◌++◌, length, Some, sym, refl, ap, ◌∙◌, subst, inl, inr, ⊎_elim, arith}
+use Rattle.std.proofs.Common.{◌≡◌, ℕ, ◌+◌, ◌-◌, ◌%◌, ◌<◌, ◌≤◌, cond, eqb, List, [], ◌∷◌, ◌++◌, length, Some, Option, sym, refl, ap, ◌∙◌, subst, inl, inr, ⊎_elim, arith}
 use Rattle.heap.specs.Meaning.{Block}
+use Rattle.heap.specs.Roundings.{up8}
 use Rattle.region.specs.Bytes.{Painted}
-use Rattle.boundary_tag.specs.Chunks.{Chunk, Shape, tag_at, chunk_at, tag_span, walk, chunks, live_in, end_in, split, chunks_granted, Settled, Written, Carved, Grant}
+use Rattle.boundary_tag.specs.Chunks.{Chunk, Shape, tag_at, chunk_at, tag_span, walk, chunks, live_in, end_in, lowest_fit, split, chunks_granted, Settled, Written, Carved, Grant}
 use Rattle.boundary_tag.specs.Ends.{tag_same}
 use Rattle.boundary_tag.specs.Walks.{Laid, laid_walk, shape_of, chunk_good, ends_of}
 use Rattle.boundary_tag.specs.Lists.{end_more, laid_before, laid_behind, granted_at, split_one, split_two, live_after, live_split, end_split, settled_after, settled_split, beside_split, live_around}
@@ -141,22 +142,25 @@ module _ (xs : List ℕ) (pre : List Chunk) (d : Chunk) (post : List Chunk) (who
           settled = λ s. subst Settled (sym carved_list) (settled_after pre (d ∷ post) (split d.0 c post) (subst Settled whole s) (settled_split d post c free) (λ b t. beside_split d.0 c post b));
         }
 
--- an accepted allocate
-module _ (xs : List ℕ) (n : ℕ) (b : Block) (f : Offered xs n b) where
-  pub fresh_tag : (tag_at xs (b.0 - 8)).0 ≡ f.chunk.1
-  fresh_tag =
-      let u = f.fit.cut in
-      let e : b.0 - 8 ≡ end_in u.before 0 = let a = f.at in let k = u.at in omega arith in
-      ap (λ (z : ℕ). (tag_at xs z).0) e ∙ ap (λ (t : Chunk). t.0) (at_tag xs u.before u.here u.behind u.whole) ∙ f.fit.size
+-- an accepted allocate, of the chunk of length l at p
+module _ (xs : List ℕ) (n : ℕ) (b : Block) (f : Offered xs n b) (p l : ℕ) (picked : lowest_fit (chunks xs) 0 (up8 n + 16) ≡ Some (p, l)) where
+  pub chosen : (p ≡ f.chunk.0) × (l ≡ f.chunk.1)
+  chosen =
+      let e : ◌≡◌ {A = Option (ℕ × ℕ)} (Some (p, l)) (Some f.chunk) = sym picked ∙ f.picked in
+      let k : ◌≡◌ {A = ℕ × ℕ} (p, l) f.chunk = cc in
+      (ap (λ (z : ℕ × ℕ). z.0) k, ap (λ (z : ℕ × ℕ). z.1) k)
 
-  pub fresh_grant : (ys : List ℕ) (l : ℕ) → l ≡ f.chunk.1 → Carved (b.0 - 8) l b.1 xs ys → Grant b xs ys
-  fresh_grant ys l e g =
+  pub fresh_grant : (ys : List ℕ) → Carved p l b.1 xs ys → Grant b xs ys
+  fresh_grant ys g =
       let u = f.fit.cut in
       let s = f.fit.size in
       let m = f.most in
       let a = f.at in
       let k = u.at in
-      let here : b.0 - 8 ≡ end_in u.before 0 = omega arith in
+      let i = chosen in
+      let at = i.0 in
+      let size = i.1 in
+      let here : p ≡ end_in u.before 0 = omega arith in
       let long : l ≡ u.here.0 = omega arith in
       let g2 : Carved (end_in u.before 0) u.here.0 b.1 xs ys = subst (λ (z : ℕ). Carved (end_in u.before 0) z b.1 xs ys) long (subst (λ (z : ℕ). Carved z l b.1 xs ys) here g) in
       carved_grant xs u.before u.here u.behind u.whole ys b.1 f.fit.free f.some f.eighth (omega arith) (λ q. let z = f.rest (omega arith) in omega arith) g2 b (omega arith) refl

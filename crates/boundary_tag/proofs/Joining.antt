@@ -1,5 +1,8 @@
 -- A free: a live chunk in its place is made free, and joined with a free one directly before and directly behind.
 use Rattle.std.proofs.Common.{◌≡◌, ℕ, ◌+◌, ◌-◌, ◌<◌, ◌≤◌, cond, eqb, leb, List, [], ◌∷◌, ◌++◌, length, Some, sym, refl, ap, ◌∙◌, subst, inl, ⊎_elim, arith}
+use Rattle.boundary_tag.specs.declared.chunks.Chunk.{Chunk as Found}
+use Rattle.boundary_tag.specs.States.{state_number}
+use Rattle.boundary_tag.specs.Placed.{Placed, seen, joined_at}
 use Rattle.boundary_tag.specs.Chunks.{Chunk, Shape, tag_at, chunk_at, tag_span, walk, chunks, live_in, end_in, free_length, past_free, chunks_freed, Settled, low_length, Written, Release}
 use Rattle.boundary_tag.specs.Walks.{Laid, laid_walk, live_here, live_other, live_low, chunk_good, ends_of}
 use Rattle.boundary_tag.specs.Lists.{Quiet, Ending, live_cut, last_cases, more_more, end_more, laid_before, live_after, live_around, free_here, live_first, end_past, live_past, laid_past, settled_quiet, settled_join, settled_before, freed_quiet, freed_before}
@@ -244,19 +247,26 @@ pub record Ready (xs : List ℕ) (a low size high : ℕ) : Type 0 where
   pub some : 24 ≤ size
   pub within : a - 8 + (size + high) ≤ tag_span (length xs)
   pub under : low ≤ a - 8
-  pub made : (ys : List ℕ) → Written (a - 8 - low) (low + (size + high)) 0 xs ys → Release a xs ys
+  pub joined : ◌≡◌ {A = Placed} (a - 8 - low, (low + (size + high), 0)) (joined_at xs a)
 
-pub ready : (xs : List ℕ) (a span low : ℕ) (t : Chunk) (high : ℕ) → span ≡ tag_span (length xs) → 0 < live_in (chunks xs) 0 a → low ≡ low_length xs (a - 8) → t ≡ tag_at xs (a - 8) → high ≡ free_length (walk xs span (a - 8 + t.0)) → Ready xs a low t.0 high
-ready xs a span low t high e h l s f =
+pub ready : (xs : List ℕ) (a low : ℕ) (t : Chunk) (high : ℕ) → 0 < live_in (chunks xs) 0 a → low ≡ low_length xs (a - 8) → t ≡ tag_at xs (a - 8) → high ≡ free_length (walk xs (tag_span (length xs)) (a - 8 + t.0)) → Ready xs a low t.0 high
+ready xs a low t high h l s f =
     let k = freeing xs a h in
     let some = k.some in
     let within = k.within in
     let under = k.under in
     let size : t.0 ≡ (tag_at xs (a - 8)).0 = ap (λ (z : Chunk). z.0) s in
-    let behind : high ≡ free_length (walk xs (tag_span (length xs)) (a - 8 + (tag_at xs (a - 8)).0)) = f ∙ ap (λ (z : ℕ). free_length (walk xs z (a - 8 + t.0))) e ∙ ap (λ (z : ℕ). free_length (walk xs (tag_span (length xs)) (a - 8 + z))) size in
+    let behind : high ≡ free_length (walk xs (tag_span (length xs)) (a - 8 + (tag_at xs (a - 8)).0)) = f ∙ ap (λ (z : ℕ). free_length (walk xs (tag_span (length xs)) (a - 8 + z))) size in
     record {
       some = omega arith;
       within = omega arith;
       under = omega arith;
-      made = λ ys w. k.made ys (moved (a - 8 - low) (a - 8 - low_length xs (a - 8)) (low + (t.0 + high)) _ xs ys (omega arith) (omega arith) w);
+      joined =
+          ap (λ (z : ℕ). (a - 8 - z, (z + (t.0 + high), 0))) l
+          ∙ ap (λ (z : ℕ). (a - 8 - low_length xs (a - 8), (low_length xs (a - 8) + (z + high), 0))) size
+          ∙ ap (λ (z : ℕ). (a - 8 - low_length xs (a - 8), (low_length xs (a - 8) + ((tag_at xs (a - 8)).0 + z), 0))) behind;
     }
+
+-- the free chunk that takes in the block and its free neighbours, once it is written
+pub release : (xs ys : List ℕ) (a : ℕ) (k : Found) → 0 < live_in (chunks xs) 0 a → seen k ≡ joined_at xs a → Written k.start k.length (state_number k.state) xs ys → Release a xs ys
+release xs ys a k h e w = (freeing xs a h).made ys (subst (λ (c : Placed). Written c.0 c.1.0 c.1.1 xs ys) e w)

@@ -1,4 +1,5 @@
 pub mod Places
+pub mod Reading
 pub mod Carving
 pub mod Joining
 pub mod Calls

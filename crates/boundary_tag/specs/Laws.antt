@@ -8,7 +8,7 @@ use Rattle.heap.specs.Meaning.{Block, Lawful, HeapFault, HeapKind, Covered}
 use Rattle.heap.specs.Roundings.{up8}
 use Rattle.heap.proofs.Offers.{admits, admits_large, admits_refused, raised_fault}
 use Rattle.region.specs.Bytes.{span_of}
-use Rattle.boundary_tag.specs.Chunks.{Chunk, Shape, tag_span, walk, chunks, live_in, end_in, lowest_fit, part_of, offer_from, tag_offer, tag_means}
+use Rattle.boundary_tag.specs.Chunks.{Chunk, Shape, tag_span, chunks, live_in, end_in, lowest_fit, part_of, offer_from, tag_offer, tag_means}
 use Rattle.boundary_tag.specs.Walks.{Found, Laid, laid_walk, laid_found, laid_apart}
 use Rattle.boundary_tag.specs.Lists.{FitCut, fit_cut, laid_behind, laid_before, end_eighth, live_around}
 use Rattle.std.proofs.lemmas.Bool.{cases_cond}
@@ -65,6 +65,7 @@ from_err (Some k) n f e = absurd (let z : ◌≡◌ {A = ℕ} 0 1 = cc in let w 
 -- what an accepted allocate is offered: the place and length of a free chunk, and where that stands in the list
 pub record Offered (xs : List ℕ) (n : ℕ) (b : Block) : Type 0 where
   pub chunk : ℕ × ℕ
+  pub picked : lowest_fit (chunks xs) 0 (up8 n + 16) ≡ Some chunk
   pub fit : FitCut (chunks xs) 0 (up8 n + 16) chunk
   pub at : b.0 ≡ chunk.0 + 8
   pub size : b.1 ≡ part_of chunk.1 (up8 n)
@@ -103,6 +104,7 @@ fresh xs n b e =
     let e8 : part_of k.1 (up8 n) % 8 ≡ 0 = part_eighth k.1 (up8 n) (omega arith) k8 (omega arith) in
     record {
       chunk = k;
+      picked = o.1;
       fit = f;
       at = sym b0;
       size = sym b1;
@@ -171,14 +173,3 @@ covered_span xs a c z k =
 
 pub covered_region : (xs : List ℕ) (a c : ℕ) → 0 < c → Covered (live_in (chunks xs) 0) a c → a + c ≤ length xs
 covered_region xs a c z k = let s = covered_span xs a c z k in let w = span_within (length xs) in omega arith
-
--- where the lowest fit lies
-pub fit_within : (xs : List ℕ) (span need : ℕ) (k : ℕ × ℕ) → lowest_fit (walk xs span 0) 0 need ≡ Some k → (need ≤ k.1) × (k.0 + k.1 ≤ span)
-fit_within xs span need k e =
-    let f = fit_cut (walk xs span 0) 0 need k e in
-    let u = f.cut in
-    let laid : Laid span 0 (u.before ++ (u.here ∷ u.behind)) = subst (Laid span 0) u.whole (laid_walk xs span 0) in
-    let fits = (laid_behind span u.before (u.here ∷ u.behind) 0 laid).0.fits in
-    let at = u.at in
-    let size = f.size in
-    (f.enough, omega arith)

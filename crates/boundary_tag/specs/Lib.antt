@@ -1,4 +1,6 @@
 pub mod Chunks
+pub mod States
+pub mod Placed
 pub mod Ends
 pub mod Walks
 pub mod Lists

@@ -1,85 +1,184 @@
-// Walks over the chunks of a region, and the writing of one.
-ghost use Rattle.std.specs.Prelude.{◌≡◌, ◌+◌, ◌≤◌, length, Some};
-ghost use Rattle.heap.specs.Meaning.{Finds};
-ghost use Rattle.boundary_tag.specs.Chunks.{shaped, closed, chunk_at, Inside, walk, live_in, lowest_fit, Written};
+// The chunks of a region, one after the other, and the writing of one.
+ghost use Rattle.std.specs.Prelude.{◌≡◌, ◌+◌, ◌-◌, ◌<◌, ◌≤◌, length, option_map};
+ghost use Rattle.boundary_tag.specs.Chunks.{tag_span, part_of, chunk_at, Written};
+ghost use Rattle.boundary_tag.specs.States.{state_number};
 
-use crate::tags::{FREE, LIVE, put_tag, tag};
+use crate::tags::{State, Tag};
+use region::used_span;
 
-// The length and state, if there can be such a chunk at `p`.
-fn shape(span: u32, p: u32, length: u32, state: u32) -> Option<(u32, u32)>
-    requires { p ≤ span }
-    ensures { result ≡ shaped span p length state }
+// How much of the region is used: nothing where no chunk fits.
+#[tactic(auto, unfolding(crate::specs::Chunks::tag_span))]
+pub(crate) fn usable(region: &[u8]) -> u32
+    ensures { result ≡ tag_span (length region.now) }
 {
-    if length > span - p || length < 24 || length % 8 != 0 {
-        return None;
+    let span = used_span(region);
+    if span < 24 {
+        return 0;
     }
-    if state == FREE || state == LIVE {
-        return Some((length, state));
-    }
-    None
+    span
 }
 
-// The chunk of this length and state, if its last tag says the same.
-fn close(length: u32, state: u32, last: (u32, u32)) -> Option<(u32, u32)>
-    ensures { result ≡ closed (Some (length, state)) last }
-{
-    if last.0 == length && last.1 == state {
-        return Some((length, state));
-    }
-    None
+// A chunk in its place.
+#[derive(Clone, Copy)]
+pub(crate) struct Chunk {
+    pub(crate) start: u32,
+    pub(crate) length: u32,
+    pub(crate) state: State,
+    ghost some: { 24 ≤ length },
+    ghost inside: { start + length ≤ 65536 },
 }
 
-// The length and state of the chunk at `p`; none where the chunks end.
-pub(crate) fn chunk(region: &[u8], span: u32, p: u32) -> Option<(u32, u32)>
-    requires { (span ≤ length region.now) × (span ≤ 65536) }
-    ensures value { result ≡ chunk_at region.now span p }
-    ensures inside { Inside span p result }
-{
-    if span.saturating_sub(p) < 24 {
-        return None;
-    }
-    let first = tag(region, p);
-    match shape(span, p, first.0, first.1) {
-        Some((length, state)) => close(length, state, tag(region, p + (length - 8))),
-        None => None,
-    }
-}
+impl Chunk {
+    ghost use Rattle.boundary_tag.specs.Placed.{seen, covers, has_room, free_part};
 
-// The live block that covers `a`, as its address and length.
-pub(crate) fn find_in(region: &[u8], span: u32, a: u32) -> Option<(u32, u32)>
-    requires { (span ≤ length region.now) × (span ≤ 65536) }
-    ensures { Finds (live_in (walk region.now span 0) 0) a result }
-{
-    let mut p = 0;
-    while let Some((length, state)) = chunk(region, span, p) {
-        if state == LIVE && p + 8 <= a && a < p + 8 + (length - 16) {
-            return Some((p + 8, length - 16));
+    pub(crate) fn end(self) -> u32
+        ensures { result ≡ self.start + self.length }
+    {
+        self.start + self.length
+    }
+
+    // The block between its tags, as its address and length.
+    pub(crate) fn block(self) -> (u32, u32)
+        ensures { result ≡ (self.start + 8, self.length - 16) }
+    {
+        (self.start + 8, self.length - 16)
+    }
+
+    // Whether it is live and its block covers `a`.
+    pub(crate) fn covers(self, a: u32) -> bool
+        ensures { result ≡ covers a (seen self) }
+    {
+        let (start, length) = self.block();
+        self.state == State::Live && (start..start + length).contains(&a)
+    }
+
+    // Whether it is free and has room for a block of `size` bytes.
+    pub(crate) fn has_room(self, size: u32) -> bool
+        ensures { result ≡ has_room size (seen self) }
+    {
+        let (_, length) = self.block();
+        self.state == State::Free && size <= length
+    }
+
+    // Its length if it is free; else 0.
+    pub(crate) fn free_length(self) -> u32
+        ensures { result ≡ free_part (seen self) }
+    {
+        match self.state {
+            State::Free => self.length,
+            State::Live => 0,
         }
-        p = p + length;
     }
-    None
-}
 
-// The lowest free chunk of at least `need` bytes, as its place and length.
-pub(crate) fn fit_in(region: &[u8], span: u32, need: u32) -> Option<(u32, u32)>
-    requires { (span ≤ length region.now) × (span ≤ 65536) }
-    ensures { result ≡ lowest_fit (walk region.now span 0) 0 need }
-{
-    let mut p = 0;
-    while let Some((length, state)) = chunk(region, span, p) {
-        if state == FREE && length >= need {
-            return Some((p, length));
+    // What is granted of it for `size` bytes. The rest stays a free chunk if it is 24 or more.
+    pub(crate) fn offer(self, size: u32) -> Offer
+        requires some { 8 ≤ size }
+        requires room { size + 16 ≤ self.length }
+        ensures chunk { result.chunk ≡ self }
+        ensures size { result.size ≡ part_of self.length size }
+    {
+        if self.length - size < 40 {
+            return Offer {
+                chunk: self,
+                size: self.length - 16,
+            };
         }
-        p = p + length;
+        Offer { chunk: self, size }
     }
-    None
+
+    // Writes both its tags.
+    pub(crate) fn write(self, region: &mut [u8])
+        requires { self.start + self.length ≤ length region.old }
+        ensures { Written self.start self.length (state_number self.state) region.old region.new }
+    {
+        let tag = Tag::new(self.length, self.state);
+        tag.write(region, self.start);
+        tag.write(region, self.start + (self.length - 8));
+    }
 }
 
-// Writes both tags of a chunk.
-pub(crate) fn put_chunk(region: &mut [u8], p: u32, size: u32, state: u32)
-    requires { (24 ≤ size) × ((p + size ≤ length region.old) × (p + size ≤ 65536)) }
-    ensures { Written p size state region.old region.new }
-{
-    put_tag(region, p, size, state);
-    put_tag(region, p + (size - 8), size, state);
+// A free chunk, and the length of the block that is granted of it: behind the block's chunk there is nothing left, or a chunk.
+#[derive(Clone, Copy)]
+pub(crate) struct Offer {
+    pub(crate) chunk: Chunk,
+    pub(crate) size: u32,
+    ghost some: { 8 ≤ size },
+    ghost most: { size + 16 ≤ chunk.length },
+    ghost rest: { size + 16 < chunk.length → size + 40 ≤ chunk.length },
+}
+
+impl Offer {
+    // The block, as its address and length.
+    pub(crate) fn block(self) -> (u32, u32)
+        ensures { result ≡ (self.chunk.start + 8, self.size) }
+    {
+        (self.chunk.start + 8, self.size)
+    }
+}
+
+// The chunks of a region from `at` on.
+#[derive(Drop)]
+pub(crate) struct Chunks<'a> {
+    region: &'a [u8],
+    span: u32,
+    at: u32,
+    ghost whole: { span ≡ tag_span (length region.now) },
+}
+
+impl<'a> Chunks<'a> {
+    ghost use Rattle.boundary_tag.specs.Placed.{seen, found_at};
+
+    pub(crate) fn new(region: &'a [u8], at: u32) -> Chunks<'a>
+        ensures region { result.region.now ≡ region.now }
+        ensures at { result.at ≡ at }
+    {
+        Chunks {
+            region,
+            span: usable(region),
+            at,
+        }
+    }
+
+    // The chunk at `at`; none where the chunks end.
+    #[tactic(auto, using(crate::specs::Laws::span_within, crate::specs::Laws::span_most))]
+    fn first(&self) -> Option<Chunk>
+        ensures { option_map seen result ≡ found_at self.now.at (chunk_at self.now.region.now self.now.span self.now.at) }
+    {
+        let room = self.span.saturating_sub(self.at);
+        if room < 24 {
+            return None;
+        }
+        let tag = Tag::read(self.region, self.at);
+        let state = State::of(tag.state)?;
+        if tag.length < 24 || room < tag.length || tag.length % 8 != 0 {
+            return None;
+        }
+        let last = Tag::read(self.region, self.at + (tag.length - 8));
+        if last != tag {
+            return None;
+        }
+        Some(Chunk {
+            start: self.at,
+            length: tag.length,
+            state,
+        })
+    }
+}
+
+impl<'a> Iterator for Chunks<'a> {
+    ghost use Rattle.std.specs.Iterator.{YieldsFirstBy, item_count};
+    ghost use Rattle.boundary_tag.specs.Placed.{seen, ahead};
+
+    type Item = Chunk;
+
+    ghost next_gives = { YieldsFirstBy seen ahead };
+
+    ghost remaining = { item_count ahead };
+
+    #[tactic(auto, using(crate::proofs::Reading::ahead_none, crate::proofs::Reading::ahead_some), unfolding(crate::specs::Placed::ahead))]
+    fn next(&mut self) -> Option<Chunk> {
+        let chunk = self.first()?;
+        self.at = chunk.end();
+        Some(chunk)
+    }
 }

@@ -10,10 +10,12 @@ mod blocks;
 mod chunks;
 mod tags;
 
-use crate::blocks::{allocate_in, fill_in, find_at, free_in, offer_in, start, usable};
-use heap::checks::check_get;
+use crate::chunks::{Chunk, Chunks, usable};
+use crate::tags::State;
+use heap::checks::{check_fill, check_free, check_get};
 use heap::fault::{Fault, Kind};
 use heap::interface::{Heap, Meant};
+use region::paint;
 
 // Chunks tile the region's span; the tags are in the region itself.
 #[derive(Drop)]
@@ -22,11 +24,20 @@ pub struct BoundaryTag<'r> {
 }
 
 impl<'r> BoundaryTag<'r> {
+    #[tactic(auto, using(crate::specs::Laws::span_within, crate::specs::Laws::span_most, crate::proofs::Calls::span_some))]
     pub fn new(region: &'r mut [u8]) -> BoundaryTag<'r>
         ensures fresh { Fresh region.old result.region.now }
         ensures nothing { NothingLive (tag_means result.region.now) }
     {
-        start(region);
+        let span = usable(region);
+        if span != 0 {
+            let whole = Chunk {
+                start: 0,
+                length: span,
+                state: State::Free,
+            };
+            whole.write(region);
+        }
         BoundaryTag { region }
     }
 }
@@ -47,28 +58,37 @@ impl<'r> Heap for BoundaryTag<'r> {
     }
 
     fn offer(&self, n: u32) -> Result<(u32, u32), Fault> {
-        offer_in(self.region, n)
+        self.room(n).map(|offer| offer.block())
     }
 
     fn find(&self, a: u32) -> Option<(u32, u32)> {
-        find_at(self.region, a)
+        Chunks::new(self.region, 0)
+            .find(|chunk| chunk.covers(a))
+            .map(|chunk| chunk.block())
     }
 
+    // The tests of get and fill are shared; what is left of either is one access, no shorter in a function for all bottoms.
     fn get(&self, a: u32) -> Result<u8, Fault> {
-        check_get(find_at(self.region, a), a, Kind::BoundaryTag)?;
+        check_get(self.find(a), a, Kind::BoundaryTag)?;
         Ok(self.region[a as usize])
     }
 
     fn allocate(&mut self, n: u32) -> Result<(u32, u32), Fault> {
-        allocate_in(self.region, n)
+        let offer = self.room(n)?;
+        self.grant(offer);
+        Ok(offer.block())
     }
 
     fn free(&mut self, a: u32) -> Result<(), Fault> {
-        free_in(self.region, a)
+        check_free(self.find(a), a, Kind::BoundaryTag)?;
+        self.joined(a).write(self.region);
+        Ok(())
     }
 
     fn fill(&mut self, a: u32, c: u32, b: u8) -> Result<(), Fault> {
-        fill_in(self.region, a, c, b)
+        check_fill(self.find(a), a, c, Kind::BoundaryTag)?;
+        paint(self.region, a, c, b);
+        Ok(())
     }
 
     // This heap holds nothing back.

@@ -1,27 +1,65 @@
 // Tags: a chunk's length and its state, in eight bytes. Where and how a tag is stored is known here alone.
 ghost use Rattle.std.specs.Prelude.{◌≡◌, ◌+◌, ◌≤◌, length};
 ghost use Rattle.boundary_tag.specs.Chunks.{tag_at, Tagged};
+ghost use Rattle.boundary_tag.specs.States.{state_number, state_of, tag_pair};
 
 use region::{put_word, word};
 
 // The states of a chunk.
-pub(crate) const FREE: u32 = 0;
-
-pub(crate) const LIVE: u32 = 1;
-
-// The tag at `p`: a length and a state.
-pub(crate) fn tag(region: &[u8], p: u32) -> (u32, u32)
-    requires { (p + 8 ≤ length region.now) × (p + 8 ≤ 65536) }
-    ensures { result ≡ tag_at region.now p }
-{
-    (word(region, p), word(region, p + 4))
+#[derive(Clone, Copy, PartialEq, Eq)]
+pub(crate) enum State {
+    Free = 0,
+    Live = 1,
 }
 
-// Writes the tag at `p`.
-pub(crate) fn put_tag(region: &mut [u8], p: u32, size: u32, state: u32)
-    requires { (p + 8 ≤ length region.old) × (p + 8 ≤ 65536) }
-    ensures { Tagged p size state region.old region.new }
-{
-    put_word(region, p, size);
-    put_word(region, p + 4, state);
+impl State {
+    // The state that a tag's number stands for, if it does for one. No TryFrom: nothing would read its error.
+    pub(crate) fn of(number: u32) -> Option<State>
+        ensures { result ≡ state_of number }
+    {
+        match number {
+            0 => Some(State::Free),
+            1 => Some(State::Live),
+            _ => None,
+        }
+    }
+}
+
+// A tag as it stands in a region: any two numbers.
+#[derive(Clone, Copy, PartialEq, Eq)]
+pub(crate) struct Tag {
+    pub(crate) length: u32,
+    pub(crate) state: u32,
+}
+
+impl Tag {
+    pub(crate) fn new(length: u32, state: State) -> Tag
+        ensures { tag_pair result ≡ (length, state_number state) }
+    {
+        Tag {
+            length,
+            state: state as u32,
+        }
+    }
+
+    // The tag at `p`.
+    #[tactic(auto, unfolding(crate::specs::Chunks::tag_at))]
+    pub(crate) fn read(region: &[u8], p: u32) -> Tag
+        requires { (p + 8 ≤ length region.now) × (p + 8 ≤ 65536) }
+        ensures { tag_pair result ≡ tag_at region.now p }
+    {
+        Tag {
+            length: word(region, p),
+            state: word(region, p + 4),
+        }
+    }
+
+    // Writes the tag at `p`.
+    pub(crate) fn write(self, region: &mut [u8], p: u32)
+        requires { (p + 8 ≤ length region.old) × (p + 8 ≤ 65536) }
+        ensures { Tagged p self.length self.state region.old region.new }
+    {
+        put_word(region, p, self.length);
+        put_word(region, p + 4, self.state);
+    }
 }

@@ -1,17 +1,16 @@
 -- What the calls of a bump heap do to its table and its meaning, and what it keeps.
-use Rattle.std.proofs.Common.{◌≡◌, ℕ, ◌+◌, ◌-◌, ◌%◌, ◌<◌, ◌≤◌, min, true, false, cond, not, eqb, List, [], ◌∷◌, length, get_or, Some, Ok, Err, Result, sym, refl, ap, ◌∙◌, subst, inl, ⊎_elim, arith}
-use Rattle.heap.specs.declared.fault.Fault.{Fault}
+use Rattle.std.proofs.Common.{◌≡◌, ℕ, ◌+◌, ◌-◌, ◌%◌, ◌<◌, ◌≤◌, min, true, false, cond, eqb, List, [], ◌∷◌, length, get_or, Some, sym, refl, ap, ◌∙◌, inl, ⊎_elim, arith}
 use Rattle.heap.specs.declared.fault.Kind.TheVariants.{Bump as BumpK}
 use Rattle.heap.specs.Faults.{and_then}
 use Rattle.heap.specs.Checks.{admitted}
-use Rattle.heap.specs.Meaning.{Block, In, Covered, Granted, Freed, Filled, Fills, Same, NothingLive}
-use Rattle.heap.specs.Histories.{History, granted, freed, filled, after_fill}
+use Rattle.heap.specs.Meaning.{Block, In, Covered, Granted, Freed, Filled, NothingLive}
+use Rattle.heap.specs.Histories.{History, granted, freed, filled}
 use Rattle.region.specs.Bytes.{word_at, span_of, Painted}
-use Rattle.bump.specs.Table.{Header, shaped, header_at, headers, walk, live_in, end_in, ended, none_live, bound_of, table, table_granted, table_freed, table_after, bump_offer, bump_means, BumpKept, BumpKeeps, Headed, Struck, Grant, Strike, Paint, Paints}
+use Rattle.bump.specs.Table.{Header, shaped, header_at, headers, walk, live_in, end_in, ended, none_live, bound_of, table, table_granted, table_freed, table_after, bump_offer, bump_means, BumpKept, BumpKeeps, Headed, Struck, Grant, Strike, Paint}
 use Rattle.bump.specs.Walks.{shaped_good}
 use Rattle.bump.proofs.Tables.{headers_struck, headers_painted, headers_grown, end_more, live_more, live_table_freed, end_table_freed}
 use Rattle.bump.specs.Laws.{Fresh, bump_found, bump_apart, bump_reach, covered_span, empty_table}
-use Rattle.std.proofs.lemmas.Bool.{cond-true, cond-false, eq-eqb, ne_eqb, cases_eq, cases_lt, not-true, not-false}
+use Rattle.std.proofs.lemmas.Bool.{cond-true, cond-false, eq-eqb, ne_eqb, cases_eq, cases_lt}
 
 -- the region's table after a grant
 headed_header : (p l : ℕ) (xs ys : List ℕ) (more : ℕ) → Headed p l xs ys → 8 ≤ l → l % 8 ≡ 0 → p + 8 + l ≤ more → header_at ys more p ≡ Some (l, 1)
@@ -92,12 +91,12 @@ module _ (xs ys : List ℕ) (cursor a : ℕ) (was : 0 < live_in (table xs cursor
   unfolding walk
   struck_table = ap (λ (z : ℕ). headers (z - 0) ys z 0) struck_bound ∙ headers_struck (bound_of xs cursor - 0) xs ys (bound_of xs cursor) 0 a s was
 
-  none_ended : (bound : ℕ) → bound ≡ bound_of ys cursor → none_live (walk ys bound 0) ≡ none_live (ended (table xs cursor) 0 a)
-  none_ended bound e = ap (λ (z : ℕ). none_live (walk ys z 0)) e ∙ ap none_live struck_table
+  none_ended : none_live (table ys cursor) ≡ none_live (ended (table xs cursor) 0 a)
+  none_ended = ap none_live struck_table
 
-  pub strike_on : (bound : ℕ) → bound ≡ bound_of ys cursor → true ≡ not (none_live (walk ys bound 0)) → Strike a cursor cursor xs ys
-  strike_on bound e n =
-      let q : none_live (ended (table xs cursor) 0 a) ≡ false = sym (none_ended bound e) ∙ not-true (none_live (walk ys bound 0)) (sym n) in
+  pub strike_on : none_live (table ys cursor) ≡ false → Strike a cursor cursor xs ys
+  strike_on n =
+      let q : none_live (ended (table xs cursor) 0 a) ≡ false = sym none_ended ∙ n in
       record {
         was = was;
         struck = s;
@@ -105,9 +104,9 @@ module _ (xs ys : List ℕ) (cursor a : ℕ) (was : 0 < live_in (table xs cursor
         table = struck_table ∙ sym (cond-false (none_live (ended (table xs cursor) 0 a)) [] (ended (table xs cursor) 0 a) q);
       }
 
-  pub strike_over : (bound : ℕ) → bound ≡ bound_of ys cursor → false ≡ not (none_live (walk ys bound 0)) → Strike a cursor 0 xs ys
-  strike_over bound e n =
-      let q : none_live (ended (table xs cursor) 0 a) ≡ true = sym (none_ended bound e) ∙ not-false (none_live (walk ys bound 0)) (sym n) in
+  pub strike_over : none_live (table ys cursor) ≡ true → Strike a cursor 0 xs ys
+  strike_over n =
+      let q : none_live (ended (table xs cursor) 0 a) ≡ true = sym none_ended ∙ n in
       record {
         was = was;
         struck = s;
@@ -178,7 +177,7 @@ module _ (xs ys : List ℕ) (cursor a c v : ℕ) where
     painted_paint = record { some = some; covered = k; painted = p; table = fill_table }
 
   module _ (p : Paint a c v cursor xs ys) where
-    bump_filled : Filled a c v (bump_means xs cursor) (bump_means ys cursor)
+    pub bump_filled : Filled a c v (bump_means xs cursor) (bump_means ys cursor)
     bump_filled = record {
       kind = refl;
       span = ap span_of p.painted.long;
@@ -196,7 +195,7 @@ module _ (xs ys : List ℕ) (cursor a c v : ℕ) where
       cursor = r.cursor;
     }
 
-    keeps_filled : (zs : List ℕ) (was : ℕ) (h : History) → BumpKeeps zs was h xs cursor → BumpKeeps zs was (filled a c v ∷ h) ys cursor
+    pub keeps_filled : (zs : List ℕ) (was : ℕ) (h : History) → BumpKeeps zs was h xs cursor → BumpKeeps zs was (filled a c v ∷ h) ys cursor
     keeps_filled zs was h k = record {
       long = p.painted.long ∙ k.long;
       rest = λ x l.
@@ -205,17 +204,6 @@ module _ (xs ys : List ℕ) (cursor a c v : ℕ) where
           p.painted.rest x (λ i. let hi = i.below in omega arith) ∙ k.rest x l;
       kept = λ z. kept_filled h (k.kept z);
     }
-
-  same_region : ys ≡ xs → Same (bump_means xs cursor) (bump_means ys cursor)
-  same_region e = subst (λ (z : List ℕ). Same (bump_means xs cursor) (bump_means z cursor)) (sym e) (record { kind = refl; span = refl; live = λ a. refl; byte = λ a x i. refl }, λ n. refl)
-
-  pub bump_fills : (r : Result (Unit {0}) Fault) → Paints a c v cursor xs ys r → Fills a c v (bump_means xs cursor) (bump_means ys cursor) r
-  bump_fills (Ok t) p = bump_filled p
-  bump_fills (Err f) p = same_region p
-
-  pub keeps_fills : (zs : List ℕ) (was : ℕ) (h : History) (r : Result (Unit {0}) Fault) → Paints a c v cursor xs ys r → BumpKeeps zs was h xs cursor → BumpKeeps zs was (after_fill a c v r h) ys cursor
-  keeps_fills zs was h (Ok t) p k = keeps_filled p zs was h k
-  keeps_fills zs was h (Err f) p k = subst (λ (z : List ℕ). BumpKeeps zs was h z cursor) (sym p) k
 
 -- what a bump heap offers after a history, as a computation on the history
 pub offers_after : (h : History) (xs : List ℕ) (cursor n : ℕ) → BumpKept h xs cursor

@@ -1,3 +1,4 @@
 pub mod Headings
 pub mod Tables
 pub mod Calls
+pub mod Readings

@@ -1,3 +1,4 @@
 pub mod Table
+pub mod Headers
 pub mod Walks
 pub mod Laws

@@ -2,7 +2,7 @@
 use Rattle.std.specs.Prelude.{◌≡◌, ℕ, zero, suc, ◌+◌, ◌-◌, ◌%◌, ◌<◌, ◌≤◌, min, Bool, true, false, cond, ◌⊎◌, List, [], ◌∷◌, ◌++◌, length, Some, None, Ok, Err, Option, Result, ◌==◌, nat_le, slice_index}
 use Rattle.heap.specs.declared.fault.Fault.{Fault}
 use Rattle.heap.specs.declared.fault.Kind.TheVariants.{Bump as BumpK}
-use Rattle.heap.specs.declared.fault.Cause.TheVariants.{Full, NotLive}
+use Rattle.heap.specs.declared.fault.Cause.TheVariants.{Full}
 use Rattle.heap.specs.Faults.{raised, and_then}
 use Rattle.heap.specs.Checks.{admitted}
 use Rattle.heap.specs.Meaning.{Meaning, Block, In, Covered}
@@ -30,11 +30,6 @@ pub record Shape (bound p : ℕ) (c : Header) : Type 0 where
   pub some : 8 ≤ c.0
   pub eighth : c.0 % 8 ≡ 0
   pub state : (c.1 ≡ 1) ⊎ (c.1 ≡ 2)
-
--- a header that was read, or none
-abbrev pub Inside : ℕ → ℕ → Option Header → Type 0
-Inside bound p (Some c) = Shape bound p c
-Inside bound p None = Unit {0}
 
 -- a header and those behind it; the blocks end before what is no header
 abbrev pub then_headers : Option Header → (Header → List Header) → List Header
@@ -74,6 +69,15 @@ end_in (c ∷ cs) p = end_in cs (p + 8 + c.0)
 abbrev pub ended : List Header → ℕ → ℕ → List Header
 ended [] p a = []
 ended (c ∷ cs) p a = (c.0, cond (a == p + 8) 2 c.1) ∷ ended cs (p + 8 + c.0) a
+
+-- a header with the address of its block
+abbrev pub Placed : Type 0
+Placed = ℕ × Header
+
+-- the headers with the addresses of their blocks, the first header at p
+abbrev pub placed : List Header → ℕ → List Placed
+placed [] p = []
+placed (c ∷ cs) p = (p + 8, c) ∷ placed cs (p + 8 + c.0)
 
 -- whether no block is live
 abbrev pub none_live : List Header → Bool
@@ -163,18 +167,3 @@ pub record Paint (a c v cursor : ℕ) (xs ys : List ℕ) : Type 0 where
   pub covered : Covered (live_in (table xs cursor) 0) a c
   pub painted : Painted a c v xs ys
   pub table : table ys cursor ≡ table xs cursor
-
--- an allocate by its answer: a refused one changes no byte
-abbrev pub Grants : ℕ → List ℕ → List ℕ → Result Block Fault → Type 0
-Grants cursor xs ys (Ok b) = Grant cursor b xs ys
-Grants cursor xs ys (Err f) = ys ≡ xs
-
--- a free, which answers the cursor
-abbrev pub Strikes : ℕ → ℕ → List ℕ → List ℕ → Result ℕ Fault → Type 0
-Strikes a cursor xs ys (Ok next) = Strike a cursor next xs ys
-Strikes a cursor xs ys (Err f) = (live_in (table xs cursor) 0 a ≡ 0) × (f ≡ raised NotLive BumpK a) × (ys ≡ xs)
-
--- a fill by its answer
-abbrev pub Paints : ℕ → ℕ → ℕ → ℕ → List ℕ → List ℕ → Result (Unit {0}) Fault → Type 0
-Paints a c v cursor xs ys (Ok t) = Paint a c v cursor xs ys
-Paints a c v cursor xs ys (Err f) = ys ≡ xs

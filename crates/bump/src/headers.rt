@@ -1,80 +1,127 @@
-// Walks over the headers of a region: eight bytes before each block, its length and its state.
-ghost use Rattle.std.specs.Prelude.{◌≡◌, ◌+◌, ◌≤◌, not, length};
-ghost use Rattle.heap.specs.Meaning.{Finds};
-ghost use Rattle.bump.specs.Table.{shaped, header_at, Inside, walk, live_in, end_in, none_live};
+// The headers of a region: eight bytes before each block, its length and its state.
+ghost use Rattle.std.specs.Prelude.{◌≡◌, ◌+◌, ◌≤◌, length};
 
-use region::word;
+use region::{used_span, word};
 
-// The states of a block.
-pub(crate) const LIVE: u32 = 1;
-
-pub(crate) const ENDED: u32 = 2;
-
-// The length and state, if they are those of a block that ends by the bound.
-fn shape(bound: u32, p: u32, length: u32, state: u32) -> Option<(u32, u32)>
-    requires { p + 8 ≤ bound }
-    ensures { result ≡ shaped bound p length state }
-{
-    if length > bound - p - 8 || length < 8 || length % 8 != 0 {
-        return None;
-    }
-    if state == LIVE || state == ENDED {
-        return Some((length, state));
-    }
-    None
+// The states of a block, by the numbers that headers have for them.
+#[derive(Clone, Copy, PartialEq, Eq)]
+pub(crate) enum State {
+    Live = 1,
+    Ended = 2,
 }
 
-// The length and state in the header at `p`; none where the blocks end.
-fn header(region: &[u8], bound: u32, p: u32) -> Option<(u32, u32)>
-    requires { (bound ≤ length region.now) × (bound ≤ 65536) }
-    ensures value { result ≡ header_at region.now bound p }
-    ensures inside { Inside bound p result }
-{
-    if bound.saturating_sub(p) < 16 {
-        return None;
-    }
-    shape(bound, p, word(region, p), word(region, p + 4))
-}
+impl State {
+    ghost use Rattle.bump.specs.Headers.{Numbers};
 
-// Where the last block ends.
-pub(crate) fn end(region: &[u8], bound: u32) -> u32
-    requires { (bound ≤ length region.now) × (bound ≤ 65536) }
-    ensures value { result ≡ end_in (walk region.now bound 0) 0 }
-    ensures below { result ≤ bound }
-{
-    let mut p = 0;
-    while let Some((length, _)) = header(region, bound, p) {
-        p = p + 8 + length;
-    }
-    p
-}
-
-// The live block that covers `a`, as its address and length.
-pub(crate) fn find_in(region: &[u8], bound: u32, a: u32) -> Option<(u32, u32)>
-    requires { (bound ≤ length region.now) × (bound ≤ 65536) }
-    ensures { Finds (live_in (walk region.now bound 0) 0) a result }
-{
-    let mut p = 0;
-    while let Some((length, state)) = header(region, bound, p) {
-        if state == LIVE && p + 8 <= a && a < p + 8 + length {
-            return Some((p + 8, length));
+    // The state that a number stands for, if it does for one. No TryFrom: nothing would read its error.
+    fn of(number: u32) -> Option<State>
+        ensures { Numbers number result }
+    {
+        match number {
+            1 => Some(State::Live),
+            2 => Some(State::Ended),
+            _ => None,
         }
-        p = p + 8 + length;
     }
-    None
 }
 
-// Whether any block is live.
-pub(crate) fn any_live(region: &[u8], bound: u32) -> bool
-    requires { (bound ≤ length region.now) × (bound ≤ 65536) }
-    ensures { result ≡ not (none_live (walk region.now bound 0)) }
-{
-    let mut p = 0;
-    while let Some((length, state)) = header(region, bound, p) {
-        if state == LIVE {
-            return true;
-        }
-        p = p + 8 + length;
+// A header that was read, with where its block starts.
+#[derive(Clone, Copy)]
+pub(crate) struct Header {
+    start: u32,
+    length: u32,
+    state: State,
+    ghost fits: { start + length ≤ 65536 },
+}
+
+impl Header {
+    ghost use Rattle.std.specs.Prelude.{◌==◌, ◌&&◌, nat_le, nat_lt};
+    ghost use Rattle.bump.specs.Headers.{number};
+
+    // The block, as its address and length.
+    pub(crate) fn block(self) -> (u32, u32)
+        ensures { result ≡ (self.start, self.length) }
+    {
+        (self.start, self.length)
     }
-    false
+
+    pub(crate) fn end(self) -> u32
+        ensures { result ≡ self.start + self.length }
+    {
+        self.start + self.length
+    }
+
+    pub(crate) fn is_live(self) -> bool
+        ensures { result ≡ (number self.state == 1) }
+    {
+        self.state == State::Live
+    }
+
+    pub(crate) fn covers(self, a: u32) -> bool
+        ensures { result ≡ (nat_le self.start a && nat_lt a (self.start + self.length)) }
+    {
+        (self.start..self.end()).contains(&a)
+    }
+}
+
+// The headers from `at` on, in turn. They end before the first that is not one of a block that ends by the bound.
+#[derive(Drop)]
+pub(crate) struct Headers<'a> {
+    region: &'a [u8],
+    bound: u32,
+    at: u32,
+    ghost within: { (bound ≤ length region.now) × (bound ≤ 65536) },
+}
+
+impl<'a> Headers<'a> {
+    ghost use Rattle.bump.specs.Table.{table, placed};
+    ghost use Rattle.bump.specs.Headers.{Reads, left};
+
+    // All headers: blocks end by the cursor and by the span.
+    pub(crate) fn new(region: &'a [u8], cursor: u32) -> Headers<'a>
+        ensures { left result ≡ placed (table region.now cursor) 0 }
+    {
+        Headers {
+            region,
+            bound: cursor.min(used_span(region)),
+            at: 0,
+        }
+    }
+
+    // The header at `at`; none where the headers end.
+    fn header(&self) -> Option<Header>
+        ensures { Reads self.now.region.now self.now.bound self.now.at result }
+    {
+        if self.bound.saturating_sub(self.at) < 16 {
+            return None;
+        }
+        let length = word(self.region, self.at);
+        let state = State::of(word(self.region, self.at + 4))?;
+        let start = self.at + 8;
+        if length < 8 || length % 8 != 0 || length > self.bound - start {
+            return None;
+        }
+        Some(Header {
+            start,
+            length,
+            state,
+        })
+    }
+}
+
+impl<'a> Iterator for Headers<'a> {
+    ghost use Rattle.std.specs.Iterator.{YieldsFirstBy, item_count};
+    ghost use Rattle.bump.specs.Headers.{seen, left};
+
+    type Item = Header;
+
+    ghost next_gives = { YieldsFirstBy seen left };
+
+    ghost remaining = { item_count left };
+
+    fn next(&mut self) -> Option<Header> {
+        let header = self.header()?;
+        self.at = header.end();
+        Some(header)
+    }
 }

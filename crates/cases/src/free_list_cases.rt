@@ -5,7 +5,6 @@ use heap::fault::{Cause, Fault, Kind};
 use heap::interface::Heap;
 use heap::rounding::{Grain, Power};
 use layers::quota::Quota;
-use std::process::Abort;
 
 // A block granted for 20 serves 32, cleared; 33 asks below for 64.
 #[test]
@@ -68,11 +67,7 @@ fn seventeenth_goes_below(rt: HostRuntime) {
 #[test]
 fn over_each_other(rt: HostRuntime) {
     let mut region = [0u8; 256];
-    over_each_other_on(&rt, Bump::new(&mut region));
-}
-
-fn over_each_other_on<H: Heap + Drop>(rt: &impl Abort, bottom: H) {
-    let quota = Quota::new(bottom, 64);
+    let quota = Quota::new(Bump::new(&mut region), 64);
     let mut heap = FreeList::new(FreeList::new(quota, Power), Grain);
     assert_eq!(rt; heap.allocate(20), Ok((8, 32)));
     assert_eq!(rt; heap.allocate(32), Ok((48, 32)));

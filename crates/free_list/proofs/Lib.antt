@@ -1,1 +1,2 @@
 pub mod Releasing
+pub mod Reading

@@ -1,5 +1,5 @@
 -- What a free list's value holds, means and keeps, over the heap below.
-use Rattle.std.specs.Prelude.{ℕ, List, take}
+use Rattle.std.specs.Prelude.{ℕ, List}
 use Rattle.free_list.specs.declared.held.Held.{Held}
 use Rattle.free_list.specs.declared.free_list.FreeList.{FreeList}
 use Rattle.heap.specs.Meaning.{Meaning}
@@ -8,7 +8,7 @@ use Rattle.free_list.specs.FreeLists.{free_listed, FreeListKeeps}
 
 -- the addresses in a table, oldest first
 abbrev pub listed : Held → List ℕ
-listed t = take t.count t.slots
+listed t = t.addresses.items
 
 -- its meaning, by the rounding and what the heap below means
 abbrev pub free_list_means : {H R : Type 0} → ℕ → (ℕ → ℕ) → (H → Meaning) → FreeList H R → Meaning

@@ -1,71 +1,60 @@
 // The table of held addresses: up to 16, no two alike, oldest first.
-ghost use Rattle.std.specs.Prelude.{◌≡◌, ◌<◌, ◌≤◌, true, false, [], length, take, slice_index};
+ghost use Rattle.std.specs.Prelude.{◌≡◌, ◌<◌, ◌≤◌, ◌==◌, true, false, [], length};
+ghost use Rattle.arrayvec.specs.ArrayVec.{array_vec_len};
 ghost use Rattle.free_list.specs.Holdings.{among, distinct, without, with_newest};
 
-// The first `count` slots are the addresses; what stands behind them does not matter.
+use arrayvec::ArrayVec;
+
+// How many addresses the table has room for.
+const MOST: usize = 16;
+
 #[derive(Drop)]
 pub(crate) struct Held {
-    slots: [u32; 16],
-    count: usize,
-    ghost few: { count ≤ 16 },
-    ghost apart: { distinct (take count slots) ≡ true },
+    addresses: ArrayVec<u32, MOST>,
+    ghost apart: { distinct addresses.items ≡ true },
 }
 
 impl Held {
     pub(crate) fn new() -> Held
-        ensures { take result.count result.slots ≡ [] }
+        ensures { result.addresses.items ≡ [] }
     {
         Held {
-            slots: [0; 16],
-            count: 0,
+            addresses: ArrayVec::new(),
         }
     }
 
-    pub(crate) fn len(&self) -> usize
-        ensures { result ≡ length (take self.now.count self.now.slots) }
+    pub(crate) fn as_slice(&self) -> &[u32]
+        ensures { result.now ≡ self.now.addresses.items }
     {
-        self.count
+        self.addresses.as_slice()
     }
 
-    // The address at `i`, counted from the oldest.
-    pub(crate) fn get(&self, i: usize) -> u32
-        requires { i < length (take self.now.count self.now.slots) }
-        ensures { result ≡ slice_index (take self.now.count self.now.slots) i }
+    pub(crate) fn is_full(&self) -> bool
+        ensures full { result ≡ (length self.now.addresses.items == 16) }
+        ensures most { length self.now.addresses.items ≤ 16 }
     {
-        self.slots[i]
+        self.addresses.is_full()
     }
 
     pub(crate) fn contains(&self, a: u32) -> bool
-        ensures { result ≡ among a (take self.now.count self.now.slots) }
+        ensures { result ≡ among a self.now.addresses.items }
     {
-        for i in 0..self.count {
-            if self.slots[i] == a {
-                return true;
-            }
-        }
-        false
+        self.addresses.as_slice().contains(&a)
     }
 
     // Adds `a` as the newest.
     pub(crate) fn push(&mut self, a: u32)
-        requires room { length (take self.old.count self.old.slots) < 16 }
-        requires fresh { among a (take self.old.count self.old.slots) ≡ false }
-        ensures { take self.new.count self.new.slots ≡ with_newest (take self.old.count self.old.slots) a }
+        requires room { length self.old.addresses.items < 16 }
+        requires fresh { among a self.old.addresses.items ≡ false }
+        ensures { self.new.addresses.items ≡ with_newest self.old.addresses.items a }
     {
-        self.slots[self.count] = a;
-        self.count += 1;
+        self.addresses.push(a);
     }
 
     // Takes `a` out, if it is there; the others keep their order.
     pub(crate) fn remove(&mut self, a: u32)
-        ensures { take self.new.count self.new.slots ≡ without a (take self.old.count self.old.slots) }
+        ensures { self.new.addresses.items ≡ without a self.old.addresses.items }
     {
-        let mut rest = Held::new();
-        for i in 0..self.count {
-            if self.slots[i] != a {
-                rest.push(self.slots[i]);
-            }
-        }
-        *self = rest;
+        self.addresses.retain(|held| *held != a);
     }
 }

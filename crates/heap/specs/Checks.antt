@@ -3,12 +3,16 @@ use Rattle.std.specs.Prelude.{ℕ, ◌+◌, Bool, false, cond, Some, None, Ok, E
 use Rattle.heap.specs.declared.fault.Fault.{Fault}
 use Rattle.heap.specs.declared.fault.Kind.{Kind}
 use Rattle.heap.specs.declared.fault.Cause.TheVariants.{Zero, TooLarge, NotLive, Outside}
-use Rattle.heap.specs.Faults.{raised}
+use Rattle.heap.specs.Faults.{raised, and_then}
 use Rattle.heap.specs.Meaning.{Block}
 
 -- a size from 1 to the largest
 abbrev pub admitted : ℕ → Kind → ℕ → Result ℕ Fault
 admitted largest k n = cond (n == 0) (Err (raised Zero k 0)) (cond (nat_le n largest) (Ok n) (Err (raised TooLarge k n)))
+
+-- such a size rounded
+abbrev pub rounded_size : ℕ → (ℕ → ℕ) → Kind → ℕ → Result ℕ Fault
+rounded_size largest rounds k n = and_then (admitted largest k n) (λ q. Ok (rounds q))
 
 -- the length of the block that find told for a, where it begins there
 abbrev pub begun : Option Block → ℕ → ℕ

@@ -29,6 +29,10 @@ abbrev pub after_fill : ℕ → ℕ → ℕ → Result (Unit {0}) Fault → Hist
 after_fill a c v (Ok _) h = filled a c v ∷ h
 after_fill a c v (Err f) h = h
 
+-- what was kept from any state over any history is kept with more calls, on the way from one state to the next
+abbrev pub Kept : {S : Type 0} → (S → History → S → Type 0) → (History → History) → S → S → Type 0
+Kept {S} keeps more s s' = (from : S) (h : History) → keeps from h s → keeps from (more h) s'
+
 -- The book: what a client that writes down its accepted calls knows of its blocks.
 
 -- the length of the block entered at an address, 0 where there is none

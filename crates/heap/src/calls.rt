@@ -1,13 +1,14 @@
 // Any list of calls on any heap, with the promise that a live block belongs to its client alone.
 ghost use Rattle.std.specs.Prelude.{◌≡◌, []};
-ghost use Rattle.heap.specs.Histories.{History, Booked};
+ghost use Rattle.heap.specs.Histories.{History, Booked, Kept};
 ghost use Rattle.heap.specs.Meaning.{NothingLive};
 ghost use Rattle.heap.specs.Runs.{Answered, Ran, Promise, after_answer, after_steps, calls};
 
 use crate::fault::Fault;
 use crate::interface::Heap;
+use std::fmt;
 
-#[derive(Clone, Copy)]
+#[derive(Clone, Copy, PartialEq, Eq, Debug)]
 pub enum Call {
     Allocate(u32),
     Free(u32),
@@ -27,6 +28,38 @@ pub enum Answer {
     Done(Result<(), Fault>),
     Found(Option<(u32, u32)>),
     Byte(Result<u8, Fault>),
+}
+
+impl fmt::Display for Call {
+    fn fmt<W: fmt::Write>(&self, f: &mut fmt::Formatter<W>) -> fmt::Result {
+        match self {
+            Call::Allocate(n) => write!(f, "allocate {n}"),
+            Call::Free(a) => write!(f, "free {a}"),
+            Call::Fill(a, c, b) => write!(f, "fill {c} at {a} with {b}"),
+            Call::Relief => f.write_str("relief"),
+            Call::Span => f.write_str("span"),
+            Call::Offer(n) => write!(f, "offer {n}"),
+            Call::Find(a) => write!(f, "find {a}"),
+            Call::Get(a) => write!(f, "get {a}"),
+        }
+    }
+}
+
+impl fmt::Display for Answer {
+    fn fmt<W: fmt::Write>(&self, f: &mut fmt::Formatter<W>) -> fmt::Result {
+        match self {
+            Answer::Nothing | Answer::Done(Ok(())) => f.write_str("done"),
+            Answer::Number(n) => write!(f, "{n}"),
+            Answer::Block(Ok((address, length))) | Answer::Found(Some((address, length))) => {
+                write!(f, "{length} bytes at {address}")
+            }
+            Answer::Found(None) => f.write_str("no live block"),
+            Answer::Byte(Ok(b)) => write!(f, "byte {b}"),
+            Answer::Block(Err(fault)) | Answer::Done(Err(fault)) | Answer::Byte(Err(fault)) => {
+                write!(f, "{fault}")
+            }
+        }
+    }
 }
 
 // A call, and the place for its answer.
@@ -52,7 +85,7 @@ impl Step {
 // Makes one call.
 pub fn make<P: Heap>(pile: &mut P, call: Call) -> Answer
     ensures answered { Answered call (P.Meant.means pile.old) (P.Meant.means pile.new) result }
-    ensures kept { (from : P) (h : History) → P.Meant.keeps from h pile.old → P.Meant.keeps from (after_answer call result h) pile.new }
+    ensures kept { Kept P.Meant.keeps (after_answer call result) pile.old pile.new }
 {
     match call {
         Call::Allocate(n) => Answer::Block(pile.allocate(n)),
@@ -77,7 +110,7 @@ pub fn make<P: Heap>(pile: &mut P, call: Call) -> Answer
 pub fn run<P: Heap>(pile: &mut P, steps: &mut [Step])
     ensures calls { calls steps.new ≡ calls steps.old }
     ensures ran { Ran steps.new (P.Meant.means pile.old) (P.Meant.means pile.new) }
-    ensures kept { (from : P) (h : History) → P.Meant.keeps from h pile.old → P.Meant.keeps from (after_steps steps.new h) pile.new }
+    ensures kept { Kept P.Meant.keeps (after_steps steps.new) pile.old pile.new }
     ensures begun { P.Meant.keeps pile.old (after_steps steps.new []) pile.new }
     ensures booked { (h : History) → Booked h (P.Meant.means pile.old) → Promise h steps.new (P.Meant.means pile.old) (P.Meant.means pile.new) }
     ensures fresh { NothingLive (P.Meant.means pile.old) → Promise [] steps.new (P.Meant.means pile.old) (P.Meant.means pile.new) }

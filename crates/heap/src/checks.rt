@@ -17,7 +17,7 @@ pub fn admit(n: u32, largest: u32, kind: Kind) -> Result<u32, Fault>
     Ok(n)
 }
 
-// The length of the block that find told for `a`, if it begins there; else 0.
+// The length of the block that find told for `a`, if it begins there; else 0, which no block has: callers compare, divide and add it as it is, and an Option would be taken apart at each.
 pub fn begun_at(found: Option<(u32, u32)>, a: u32) -> u32
     ensures { result ≡ begun found a }
 {
@@ -31,11 +31,9 @@ pub fn begun_at(found: Option<(u32, u32)>, a: u32) -> u32
 pub fn reaches(found: Option<(u32, u32)>, a: u32, c: u32) -> bool
     ensures { result ≡ reached found a c }
 {
-    match found {
-        Some((start, length)) => u64::from(a) + u64::from(c)
-            <= u64::from(start) + u64::from(length),
-        None => false,
-    }
+    found.is_some_and(|(start, length)| {
+        u64::from(a) + u64::from(c) <= u64::from(start) + u64::from(length)
+    })
 }
 
 // The test of a get, by what find told for its address.

@@ -2,79 +2,93 @@
 ghost use Rattle.std.specs.Prelude.{◌≡◌};
 ghost use Rattle.heap.specs.Faults.{cause_number, kind_number, raised, handed_up, up, own};
 
-// Why a call was refused. `number` gives the number that a report prints.
+use std::fmt;
+
+// Why a call was refused, with the number that a report prints.
 #[derive(Clone, Copy, PartialEq, Eq, Debug)]
 pub enum Cause {
-    Zero,
-    TooLarge,
-    NotLive,
-    Outside,
-    Full,
-    Shut,
-    OverQuota,
-    TraceLength,
-    FrameKind,
-    FrameField,
-    PileNumber,
-    ReportBuffer,
-    SlotTaken,
-    SlotEmpty,
+    Zero = 1,
+    TooLarge = 2,
+    NotLive = 3,
+    Outside = 4,
+    Full = 5,
+    Shut = 6,
+    OverQuota = 7,
+    TraceLength = 11,
+    FrameKind = 12,
+    FrameField = 13,
+    PileNumber = 14,
+    ReportBuffer = 18,
+    SlotTaken = 21,
+    SlotEmpty = 22,
 }
 
 impl Cause {
     pub fn number(self) -> u8
         ensures { result ≡ cause_number self }
     {
-        match self {
-            Cause::Zero => 1,
-            Cause::TooLarge => 2,
-            Cause::NotLive => 3,
-            Cause::Outside => 4,
-            Cause::Full => 5,
-            Cause::Shut => 6,
-            Cause::OverQuota => 7,
-            Cause::TraceLength => 11,
-            Cause::FrameKind => 12,
-            Cause::FrameField => 13,
-            Cause::PileNumber => 14,
-            Cause::ReportBuffer => 18,
-            Cause::SlotTaken => 21,
-            Cause::SlotEmpty => 22,
-        }
+        self as u8
     }
 }
 
-// Which heap raised a fault, or that the replay did.
+impl fmt::Display for Cause {
+    fn fmt<W: fmt::Write>(&self, f: &mut fmt::Formatter<W>) -> fmt::Result {
+        f.write_str(match self {
+            Cause::Zero => "nothing asked for",
+            Cause::TooLarge => "too large",
+            Cause::NotLive => "no live block begins here",
+            Cause::Outside => "outside one live block",
+            Cause::Full => "no space",
+            Cause::Shut => "second heap is shut",
+            Cause::OverQuota => "over the quota",
+            Cause::TraceLength => "trace has no whole frames",
+            Cause::FrameKind => "frame kind",
+            Cause::FrameField => "frame field",
+            Cause::PileNumber => "pile number",
+            Cause::ReportBuffer => "report buffer",
+            Cause::SlotTaken => "id holds a block",
+            Cause::SlotEmpty => "id holds none",
+        })
+    }
+}
+
+// Which heap raised a fault, or that the replay did, with the number that a report prints.
 #[derive(Clone, Copy, PartialEq, Eq, Debug)]
 pub enum Kind {
-    Replay,
-    Bump,
-    Bitmap,
-    BoundaryTag,
-    Rounding,
-    Affix,
-    FreeList,
-    Quota,
-    Segregator,
-    Fallback,
+    Replay = 0,
+    Bump = 1,
+    Bitmap = 2,
+    BoundaryTag = 3,
+    Rounding = 4,
+    Affix = 5,
+    FreeList = 6,
+    Quota = 7,
+    Segregator = 8,
+    Fallback = 9,
 }
 
 impl Kind {
     pub fn number(self) -> u8
         ensures { result ≡ kind_number self }
     {
-        match self {
-            Kind::Replay => 0,
-            Kind::Bump => 1,
-            Kind::Bitmap => 2,
-            Kind::BoundaryTag => 3,
-            Kind::Rounding => 4,
-            Kind::Affix => 5,
-            Kind::FreeList => 6,
-            Kind::Quota => 7,
-            Kind::Segregator => 8,
-            Kind::Fallback => 9,
-        }
+        self as u8
+    }
+}
+
+impl fmt::Display for Kind {
+    fn fmt<W: fmt::Write>(&self, f: &mut fmt::Formatter<W>) -> fmt::Result {
+        f.write_str(match self {
+            Kind::Replay => "replay",
+            Kind::Bump => "bump",
+            Kind::Bitmap => "bitmap",
+            Kind::BoundaryTag => "boundary tag",
+            Kind::Rounding => "rounding",
+            Kind::Affix => "affix",
+            Kind::FreeList => "free list",
+            Kind::Quota => "quota",
+            Kind::Segregator => "segregator",
+            Kind::Fallback => "fallback",
+        })
     }
 }
 
@@ -106,11 +120,23 @@ impl Fault {
         ensures { result ≡ handed_up self }
     {
         Fault {
-            cause: self.cause,
-            kind: self.kind,
             down: self.down.saturating_add(1),
-            place: self.place,
+            ..self
         }
+    }
+}
+
+impl fmt::Display for Fault {
+    fn fmt<W: fmt::Write>(&self, f: &mut fmt::Formatter<W>) -> fmt::Result {
+        write!(
+            f,
+            "refused {}, {} ({}, down {}, place {})",
+            self.cause.number(),
+            self.cause,
+            self.kind,
+            self.down,
+            self.place
+        )
     }
 }
 
@@ -118,18 +144,12 @@ impl Fault {
 pub fn hand_up<T>(answer: Result<T, Fault>) -> Result<T, Fault>
     ensures { result ≡ up answer }
 {
-    match answer {
-        Ok(value) => Ok(value),
-        Err(fault) => Err(fault.up()),
-    }
+    answer.map_err(Fault::up)
 }
 
 // An answer from below to any other call: the layer that was called raises its fault itself.
 pub fn make_own<T>(answer: Result<T, Fault>, kind: Kind, place: u32) -> Result<T, Fault>
     ensures { result ≡ own kind place answer }
 {
-    match answer {
-        Ok(value) => Ok(value),
-        Err(fault) => Err(Fault::new(fault.cause, kind, place)),
-    }
+    answer.map_err(|fault| Fault::new(fault.cause, kind, place))
 }

@@ -1,6 +1,6 @@
 // The heap interface: what a heap means, and what each call on one owes.
 ghost use Rattle.std.specs.Prelude.{◌≡◌, [], ◌∷◌};
-ghost use Rattle.heap.specs.Histories.{History, after_allocate, after_free, after_fill, relieved};
+ghost use Rattle.heap.specs.Histories.{History, after_allocate, after_free, after_fill, relieved, Kept};
 ghost use Rattle.heap.specs.Meaning.{Meaning, Lawful, Stays, Finds, Gets, MayFree, MayFill, Allocates, Frees, Fills};
 
 use crate::checks::begun_at;
@@ -44,27 +44,27 @@ pub trait Heap: Meant {
     fn allocate(&mut self, n: u32) -> Result<(u32, u32), Fault>
         ensures answer { result ≡ (Self.Meant.means self.old).offer n }
         ensures after { Allocates (Self.Meant.means self.old) (Self.Meant.means self.new) result }
-        ensures kept { (from : Self) (h : History) → Self.Meant.keeps from h self.old → Self.Meant.keeps from (after_allocate n result h) self.new };
+        ensures kept { Kept Self.Meant.keeps (after_allocate n result) self.old self.new };
 
     // Ends the live block that begins at `a`.
     fn free(&mut self, a: u32) -> Result<(), Fault>
         ensures answer { MayFree (Self.Meant.means self.old).kind (Self.Meant.means self.old).live a result }
         ensures after { Frees a (Self.Meant.means self.old) (Self.Meant.means self.new) result }
-        ensures kept { (from : Self) (h : History) → Self.Meant.keeps from h self.old → Self.Meant.keeps from (after_free a result h) self.new };
+        ensures kept { Kept Self.Meant.keeps (after_free a result) self.old self.new };
 
     // Sets the `c` bytes from `a` on to `b`.
     fn fill(&mut self, a: u32, c: u32, b: u8) -> Result<(), Fault>
         ensures answer { MayFill (Self.Meant.means self.old).kind (Self.Meant.means self.old).live a c result }
         ensures after { Fills a c b (Self.Meant.means self.old) (Self.Meant.means self.new) result }
-        ensures kept { (from : Self) (h : History) → Self.Meant.keeps from h self.old → Self.Meant.keeps from (after_fill a c b result h) self.new };
+        ensures kept { Kept Self.Meant.keeps (after_fill a c b result) self.old self.new };
 
     // Relief: every block that a layer holds back is handed down. It is never refused; offers may change.
     fn relief(&mut self)
         ensures after { Stays (Self.Meant.means self.old) (Self.Meant.means self.new) }
-        ensures kept { (from : Self) (h : History) → Self.Meant.keeps from h self.old → Self.Meant.keeps from (relieved ∷ h) self.new };
+        ensures kept { Kept Self.Meant.keeps (λ h. relieved ∷ h) self.old self.new };
 }
 
-// The length of the live block that begins at `a`, 0 where none does.
+// The length of the live block that begins at `a`, 0 where none does: the meaning's `live` itself, and no Option of it.
 pub fn length_at<H: Heap>(heap: &H, a: u32) -> u32
     ensures { result ≡ (H.Meant.means heap.now).live a }
 {

@@ -1,15 +1,11 @@
 -- A rounding layer over a heap: its offers, and the calls that it makes below.
-use Rattle.std.specs.Prelude.{ℕ, [], ◌∷◌, Ok, Result}
+use Rattle.std.specs.Prelude.{ℕ, [], ◌∷◌, Result}
 use Rattle.heap.specs.declared.fault.Fault.{Fault}
 use Rattle.heap.specs.declared.fault.Kind.TheVariants.{Rounding as RoundingK}
 use Rattle.heap.specs.Faults.{up, and_then}
 use Rattle.heap.specs.Checks.{admitted}
 use Rattle.heap.specs.Meaning.{Meaning, Block, with_offers}
 use Rattle.heap.specs.Histories.{History, granted, freed, filled, relieved}
-
--- the size to ask for below
-abbrev pub rounded_size : ℕ → (ℕ → ℕ) → ℕ → Result ℕ Fault
-rounded_size largest rounds n = and_then (admitted largest RoundingK n) (λ q. Ok (rounds q))
 
 -- the offer for n is the offer below for the rounded size
 abbrev pub rounded_offer : ℕ → (ℕ → ℕ) → Meaning → ℕ → Result Block Fault

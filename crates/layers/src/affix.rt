@@ -5,7 +5,7 @@ ghost use Rattle.layers.specs.Affixes.{affix_live, Marked, Whole, AllWhole};
 ghost use Rattle.layers.specs.Affix.{affix_means, AffixKeeps};
 ghost use Rattle.layers.specs.Affixed.{affixed_lawful};
 
-use heap::checks::{admit, begun_at, check_fill, check_free, check_get};
+use heap::checks::{admit, check_fill, check_free, check_get};
 use heap::fault::{Fault, Kind, hand_up, make_own};
 use heap::interface::{Heap, LARGEST_SIZE, Meant};
 
@@ -23,13 +23,7 @@ fn marked<H: Heap>(heap: &H, from: u32) -> bool
     ensures yes { result ≡ true → Marked (H.Meant.means heap.now).byte from }
     ensures no { result ≡ false → Marked (H.Meant.means heap.now).byte from → ⊥ }
 {
-    for i in 0..8 {
-        match heap.get(from + i) {
-            Ok(b) if b == MARK => {}
-            _ => return false,
-        }
-    }
-    true
+    (from..from + 8).all(|a| heap.get(a) == Ok(MARK))
 }
 
 impl<H: Heap> Affix<H> {
@@ -53,26 +47,17 @@ impl<H: Heap> Affix<H> {
         }
     }
 
-    // The length of the block above that begins at `a`, 0 where none does.
-    fn length(&self, a: u32) -> u32
-        ensures { result ≡ affix_live (H.Meant.means self.now.below).live a }
-    {
-        begun_at(self.inner(a), a)
-    }
-
     // Whether a block begins at `a` and both of its marks are as they were written.
     pub fn whole(&self, a: u32) -> bool
         ensures yes { result ≡ true → (0 < affix_live (H.Meant.means self.now.below).live a) × Whole (H.Meant.means self.now.below).live (H.Meant.means self.now.below).byte a }
         ensures no { result ≡ false → 0 < affix_live (H.Meant.means self.now.below).live a → Whole (H.Meant.means self.now.below).live (H.Meant.means self.now.below).byte a → ⊥ }
     {
-        let length = self.length(a);
-        if length == 0 {
-            return false;
+        match self.inner(a) {
+            Some((start, length)) if start == a => {
+                marked(&self.below, a - 8) && marked(&self.below, a + length)
+            }
+            _ => false,
         }
-        if !marked(&self.below, a - 8) {
-            return false;
-        }
-        marked(&self.below, a + length)
     }
 }
 
@@ -101,6 +86,7 @@ impl<H: Heap> Heap for Affix<H> {
         self.inner(a)
     }
 
+    // The tests of get and fill are shared, and so is how a fault from below is made this layer's own; a function for both layers would only hand these on.
     fn get(&self, a: u32) -> Result<u8, Fault> {
         check_get(self.inner(a), a, Kind::Affix)?;
         make_own(self.below.get(a), Kind::Affix, a)

@@ -1,6 +1,6 @@
 // A layer that keeps the total length of the live blocks within a limit.
 ghost use Rattle.std.specs.Prelude.{refl, ◌≡◌, ◌+◌, ◌≤◌};
-ghost use Rattle.heap.specs.Histories.{History, after_allocate, after_free};
+ghost use Rattle.heap.specs.Histories.{after_allocate, after_free, Kept};
 ghost use Rattle.heap.specs.Meaning.{NothingLive, Allocates, MayFree, Frees};
 ghost use Rattle.layers.specs.Quotas.{Charges, Credits, Paid, quota_offer};
 ghost use Rattle.layers.specs.Quota.{quota_means, QuotaKeeps};
@@ -16,14 +16,6 @@ pub struct Quota<H> {
     limit: u32,
     // the total of the lengths granted and not freed since
     account: u32,
-}
-
-// The account after a grant: the sum fits, since the limit does.
-fn charged(account: u32, length: u32, limit: u32) -> u32
-    requires { account + length ≤ limit }
-    ensures { result ≡ account + length }
-{
-    account + length
 }
 
 impl<H: Heap> Quota<H> {
@@ -63,13 +55,13 @@ impl<H: Heap> Quota<H> {
     fn charge(&mut self, n: u32) -> Result<(u32, u32), Fault>
         ensures answer { result ≡ quota_offer self.old.limit self.old.account (H.Meant.means self.old.below) n }
         ensures after { Allocates (H.Meant.means self.old.below) (H.Meant.means self.new.below) result }
-        ensures kept { (from : H) (h : History) → H.Meant.keeps from h self.old.below → H.Meant.keeps from (after_allocate n result h) self.new.below }
+        ensures kept { Kept H.Meant.keeps (after_allocate n result) self.old.below self.new.below }
         ensures limit { self.new.limit ≡ self.old.limit }
         ensures account { Charges self.old.account self.new.account result }
     {
         let block = self.offered(n)?;
         let _ = self.below.allocate(n);
-        self.account = charged(self.account, block.1, self.limit);
+        self.account += block.1;
         Ok(block)
     }
 
@@ -77,7 +69,7 @@ impl<H: Heap> Quota<H> {
     fn credit(&mut self, a: u32) -> Result<(), Fault>
         ensures answer { MayFree (H.Meant.means self.old.below).kind (H.Meant.means self.old.below).live a result }
         ensures after { Frees a (H.Meant.means self.old.below) (H.Meant.means self.new.below) result }
-        ensures kept { (from : H) (h : History) → H.Meant.keeps from h self.old.below → H.Meant.keeps from (after_free a result h) self.new.below }
+        ensures kept { Kept H.Meant.keeps (after_free a result) self.old.below self.new.below }
         ensures limit { self.new.limit ≡ self.old.limit }
         ensures account { Credits self.old.account self.new.account ((H.Meant.means self.old.below).live a) result }
     {

@@ -1,13 +1,11 @@
 // A layer that asks below for the rounded size.
 ghost use Rattle.std.specs.Prelude.{◌≡◌};
-ghost use Rattle.layers.specs.Roundeds.{rounded_size};
 ghost use Rattle.layers.specs.Rounded.{rounded_means, rounded_keeps};
 ghost use Rattle.layers.specs.RoundedsLemmas.{rounded_lawful};
 
-use heap::checks::admit;
 use heap::fault::{Fault, Kind, hand_up, make_own};
 use heap::interface::{Heap, Meant};
-use heap::rounding::Rounding;
+use heap::rounding::{Rounding, rounded_size};
 
 #[derive(Drop)]
 pub struct Rounded<H, R> {
@@ -22,18 +20,10 @@ impl<H: Heap, R: Rounding> Rounded<H, R> {
     {
         Rounded { below, rounding }
     }
-
-    // The size to ask for below.
-    fn size(n: u32) -> Result<u32, Fault>
-        ensures { result ≡ rounded_size R.Rounding.largest R.Rounding.rounds n }
-    {
-        let n = admit(n, R::limit(), Kind::Rounding)?;
-        Ok(R::round(n))
-    }
 }
 
 impl<H: Heap, R: Rounding> Meant for Rounded<H, R> {
-    ghost means = { rounded_means R.Rounding.largest R.Rounding.rounds H.Meant.means };
+    ghost means = { rounded_means R.Rounding.LARGEST R.Rounding.rounds H.Meant.means };
 
     ghost keeps = { rounded_keeps R.Rounding.rounds H.Meant.keeps };
 
@@ -48,7 +38,7 @@ impl<H: Heap, R: Rounding> Heap for Rounded<H, R> {
     }
 
     fn offer(&self, n: u32) -> Result<(u32, u32), Fault> {
-        let size = Self::size(n)?;
+        let size = rounded_size::<R>(n, Kind::Rounding)?;
         hand_up(self.below.offer(size))
     }
 
@@ -61,7 +51,7 @@ impl<H: Heap, R: Rounding> Heap for Rounded<H, R> {
     }
 
     fn allocate(&mut self, n: u32) -> Result<(u32, u32), Fault> {
-        let size = Self::size(n)?;
+        let size = rounded_size::<R>(n, Kind::Rounding)?;
         hand_up(self.below.allocate(size))
     }
 

@@ -1,5 +1,7 @@
 -- Two heaps side by side: what the pair shows of them, its offers, and the calls that reach each.
-use Rattle.std.specs.Prelude.{ℕ, ◌+◌, ◌-◌, Bool, cond, [], ◌∷◌, Ok, Err, Result, nat_le, nat_lt}
+use Rattle.std.specs.Prelude.{◌≡◌, ℕ, ◌+◌, ◌-◌, ◌<◌, ◌≤◌, Bool, true, false, cond, [], ◌∷◌, Ok, Err, Result, nat_le, nat_lt}
+use Rattle.pairs.specs.declared.pair.Share.{Share}
+use Rattle.pairs.specs.declared.pair.Share.TheVariants.{First, Second, Neither}
 use Rattle.heap.specs.declared.fault.Fault.{Fault}
 use Rattle.heap.specs.declared.fault.Kind.{Kind}
 use Rattle.heap.specs.declared.fault.Kind.TheVariants.{Segregator as SegregatorK, Fallback as FallbackK}
@@ -12,6 +14,12 @@ use Rattle.heap.specs.Histories.{History, granted, freed, filled, relieved}
 -- whether the second heap is open, by the two spans: together they are no more than the largest span; else it is shut
 abbrev pub both_fit : ℕ → ℕ → Bool
 both_fit s t = nat_le (s + t) 1048576
+
+-- where an address lies, by the first's span and whether the second is open
+abbrev pub Lies : ℕ → Bool → ℕ → Share → Type 0
+Lies s open-second a First = a < s
+Lies s open-second a (Second b) = (s ≤ a) × (open-second ≡ true) × (b ≡ a - s)
+Lies s open-second a Neither = (s ≤ a) × (open-second ≡ false)
 
 -- a function of the first's addresses and one of the second's as a function of the pair's: the first's below its span s, the second's moved up by s, and 0 there where the second is not open
 abbrev pub side_by_side : ℕ → Bool → (ℕ → ℕ) → (ℕ → ℕ) → ℕ → ℕ

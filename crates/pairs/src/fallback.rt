@@ -44,10 +44,9 @@ impl<A: Heap, B: Heap> Heap for Fallback<A, B> {
 
     fn offer(&self, n: u32) -> Result<(u32, u32), Fault> {
         admit(n, LARGEST_SIZE, Kind::Fallback)?;
-        match self.pair.offer_first(n) {
-            Ok(block) => Ok(block),
-            Err(_) => self.pair.offer_second(n, Kind::Fallback),
-        }
+        self.pair
+            .offer_first(n)
+            .or_else(|_| self.pair.offer_second(n, Kind::Fallback))
     }
 
     fn find(&self, a: u32) -> Option<(u32, u32)> {
@@ -58,7 +57,7 @@ impl<A: Heap, B: Heap> Heap for Fallback<A, B> {
         self.pair.get(a, Kind::Fallback)
     }
 
-    // A refusal by the first changes nothing, so the first need not be asked for its offer before.
+    // A refusal by the first changes nothing, so the first need not be asked for its offer before. By match and not by or_else: of what a closure does to the pair that it captures, the proof learns nothing.
     fn allocate(&mut self, n: u32) -> Result<(u32, u32), Fault> {
         admit(n, LARGEST_SIZE, Kind::Fallback)?;
         match self.pair.allocate_first(n) {

@@ -61,6 +61,7 @@ impl<A: Heap, B: Heap> Heap for Segregator<A, B> {
         }
     }
 
+    // What does not hang on a size is the pair's, under this kind. A type parameter for the choice would bring a trait with the meaning and the rule of both heaps made of two, and be no shorter.
     fn find(&self, a: u32) -> Option<(u32, u32)> {
         self.pair.find(a)
     }

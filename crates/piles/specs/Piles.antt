@@ -1,5 +1,5 @@
 -- The three piles, and a replay on each of them from the moment that it was made.
-use Rattle.std.specs.Prelude.{◌≡◌, ℕ, ◌<◌, false, ◌⊎◌, List, [], ◌∷◌, length, Ok, Err, Result}
+use Rattle.std.specs.Prelude.{◌≡◌, ℕ, ◌<◌, false, ◌⊎◌, List, [], length, Ok, Err, Result}
 use Rattle.heap.specs.declared.fault.Fault.{Fault}
 use Rattle.heap.specs.declared.rounding.Grain.{Grain}
 use Rattle.heap.specs.declared.rounding.Power.{Power}
@@ -16,7 +16,8 @@ use Rattle.bitmap.specs.Words.{bit_in}
 use Rattle.bitmap.specs.Cells.{bitmap_means, BitmapKeeps}
 use Rattle.boundary_tag.specs.declared.BoundaryTag.{BoundaryTag}
 use Rattle.boundary_tag.specs.Chunks.{chunks, one_free, tag_means, TagKeeps}
-use Rattle.trace.specs.declared.frame.Frame.{Frame}
+use Rattle.trace.specs.declared.frame.Pile.{Pile}
+use Rattle.trace.specs.declared.frame.Pile.TheVariants as pile
 use Rattle.trace.specs.Recordings.{Recording, recorded}
 use Rattle.layers.specs.declared.quota.Quota.{Quota}
 use Rattle.layers.specs.declared.rounded.Rounded.{Rounded}
@@ -67,8 +68,8 @@ pub record FreshBump (n : ℕ) (s : Bump) : Type 0 where
 
 pub record FreshBitmap (n : ℕ) (s : Bitmap) : Type 0 where
   pub region : length s.region.now ≡ n
-  pub used : (x : ℕ) → bit_in s.maps.used x ≡ false
-  pub first : (x : ℕ) → bit_in s.maps.first x ≡ false
+  pub used : (x : ℕ) → bit_in s.maps.used.words x ≡ false
+  pub first : (x : ℕ) → bit_in s.maps.first.words x ≡ false
 
 pub record FreshTags (n : ℕ) (s : BoundaryTag) : Type 0 where
   pub region : length s.region.now ≡ n
@@ -83,10 +84,10 @@ abbrev pub bump_kept : Bump → History → Bump → Type 0
 bump_kept from h s = BumpKeeps from.region.now from.cursor h s.region.now s.cursor
 
 abbrev pub bitmap_shown : Bitmap → Meaning
-bitmap_shown s = bitmap_means s.region.now (bit_in s.maps.used) (bit_in s.maps.first)
+bitmap_shown s = bitmap_means s.region.now (bit_in s.maps.used.words) (bit_in s.maps.first.words)
 
 abbrev pub bitmap_kept : Bitmap → History → Bitmap → Type 0
-bitmap_kept from h s = BitmapKeeps from.region.now (bit_in from.maps.used) (bit_in from.maps.first) h s.region.now (bit_in s.maps.used) (bit_in s.maps.first)
+bitmap_kept from h s = BitmapKeeps from.region.now (bit_in from.maps.used.words) (bit_in from.maps.first.words) h s.region.now (bit_in s.maps.used.words) (bit_in s.maps.first.words)
 
 abbrev pub tags_shown : BoundaryTag → Meaning
 tags_shown s = tag_means s.region.now
@@ -94,23 +95,18 @@ tags_shown s = tag_means s.region.now
 abbrev pub tags_kept : BoundaryTag → History → BoundaryTag → Type 0
 tags_kept from h s = TagKeeps from.region.now h s.region.now
 
--- a replay on the pile of a number, from the moment that it was made
-pub data OnPile (trace out out' : List ℕ) (r : Result ℕ Fault) : ℕ → Type 0 where
+-- a replay on a pile, from the moment that it was made
+pub data OnPile (trace out out' : List ℕ) (r : Result ℕ Fault) : Pile → Type 0 where
   -- bump 16,384
-  one : (s s' : Bump) → FreshBump 16384 s → Replays bump_shown bump_kept trace s s' out out' r → OnPile trace out out' r 1
+  one : (s s' : Bump) → FreshBump 16384 s → Replays bump_shown bump_kept trace s s' out out' r → OnPile trace out out' r pile.Bump
   -- free list over rounding layer over bitmap 16,384
-  two : (b : Bitmap) → FreshBitmap 16384 b → Reusing bitmap_shown bitmap_kept b trace out out' r → OnPile trace out out' r 2
+  two : (b : Bitmap) → FreshBitmap 16384 b → Reusing bitmap_shown bitmap_kept b trace out out' r → OnPile trace out out' r pile.Reusing
   -- segregator of free list over bitmap 8,192, and quota over fallback of affix over boundary tag 8,192 and bump 4,096
-  three : (a : Bitmap) (b : BoundaryTag) (c : Bump) → FreshBitmap 8192 a → FreshTags 8192 b → FreshBump 4096 c → Splitting bitmap_shown bitmap_kept tags_shown tags_kept bump_shown bump_kept a b c trace out out' r → OnPile trace out out' r 3
-
--- the number in the first of frames
-abbrev pub first_number : List Frame → ℕ
-first_number [] = 0
-first_number (f ∷ fs) = f.number
+  three : (a : Bitmap) (b : BoundaryTag) (c : Bump) → FreshBitmap 8192 a → FreshTags 8192 b → FreshBump 4096 c → Splitting bitmap_shown bitmap_kept tags_shown tags_kept bump_shown bump_kept a b c trace out out' r → OnPile trace out out' r pile.Splitting
 
 -- a replay on a pile, which is the one that the trace names if it is accepted
 pub record OnOwnPile (trace out out' : List ℕ) (r : Result ℕ Fault) : Type 0 where
-  pub pile : ℕ
+  pub pile : Pile
   pub named : (x : Recording) → recorded trace ≡ Ok x → x.pile ≡ pile
   pub replayed : OnPile trace out out' r pile
 

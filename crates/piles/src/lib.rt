@@ -1,16 +1,16 @@
 // The piles that a trace may name, and the replay of a trace on its own pile.
 #![tactic(auto)]
 
-ghost use Rattle.std.specs.Prelude.{◌≡◌};
-ghost use Rattle.trace.specs.Frames.{frames_of};
-ghost use Rattle.piles.specs.Piles.{Reusing, Splitting, OnPile, OnOwnPile, Answers, first_number};
+ghost use Rattle.std.specs.Prelude.{◌≡◌, Ok};
+ghost use Rattle.trace.specs.declared.frame.Pile.TheVariants as pile;
+ghost use Rattle.trace.specs.Recordings.{Recording, recorded};
+ghost use Rattle.piles.specs.Piles.{OnPile, OnOwnPile, Answers};
 
 use bitmap::Bitmap;
 use boundary_tag::BoundaryTag;
 use bump::Bump;
 use free_list::free_list::FreeList;
 use heap::fault::Fault;
-use heap::interface::Heap;
 use heap::rounding::{Grain, Power};
 use layers::affix::Affix;
 use layers::quota::Quota;
@@ -19,96 +19,67 @@ use pairs::fallback::Fallback;
 use pairs::segregator::Segregator;
 use player::player::replay;
 use report::lines::write_refusal;
-use trace::frame::read_frame;
+use trace::frame::{Pile, read_frame};
 
 // Pile 1.
 fn replay_bump(trace: &[u8], report: &mut [u8]) -> Result<usize, Fault>
-    ensures { OnPile trace.now report.old report.new result 1 }
+    ensures { OnPile trace.now report.old report.new result pile.Bump }
 {
     let mut region = [0; 16384];
     let mut pile = Bump::new(&mut region);
     replay(&mut pile, trace, report)
 }
 
-// Pile 2 over its bottom.
-fn replay_reusing<A: Heap + Drop>(
-    bottom: A,
-    trace: &[u8],
-    report: &mut [u8],
-) -> Result<usize, Fault>
-    ensures { Reusing A.Meant.means A.Meant.keeps bottom trace.now report.old report.new result }
-{
-    let mut pile = FreeList::new(Rounded::new(bottom, Power), Grain);
-    replay(&mut pile, trace, report)
-}
-
-// Pile 3 over its bottoms: small sizes from the first; large ones from marked blocks of the second, or from the last once that is full, and together within a limit.
-fn replay_splitting<A: Heap + Drop, B: Heap + Drop, C: Heap + Drop>(
-    small: A,
-    large: B,
-    last: C,
-    trace: &[u8],
-    report: &mut [u8],
-) -> Result<usize, Fault>
-    ensures { Splitting A.Meant.means A.Meant.keeps B.Meant.means B.Meant.keeps C.Meant.means C.Meant.keeps small large last trace.now report.old report.new result }
-{
-    let rationed = Quota::new(Fallback::new(Affix::new(large), last), 10000);
-    let mut pile = Segregator::new(FreeList::new(small, Power), rationed, 256);
-    replay(&mut pile, trace, report)
-}
-
 // Pile 2.
-fn replay_bitmap(trace: &[u8], report: &mut [u8]) -> Result<usize, Fault>
-    ensures { OnPile trace.now report.old report.new result 2 }
+fn replay_reusing(trace: &[u8], report: &mut [u8]) -> Result<usize, Fault>
+    ensures { OnPile trace.now report.old report.new result pile.Reusing }
 {
     let mut region = [0; 16384];
-    replay_reusing(Bitmap::new(&mut region), trace, report)
+    let rounded = Rounded::new(Bitmap::new(&mut region), Power);
+    let mut pile = FreeList::new(rounded, Grain);
+    replay(&mut pile, trace, report)
 }
 
-// Pile 3.
-fn replay_three(trace: &[u8], report: &mut [u8]) -> Result<usize, Fault>
-    ensures { OnPile trace.now report.old report.new result 3 }
+// Pile 3: small sizes from a free list; large ones from marked blocks, or from the last heap once those are full, and together within a limit.
+fn replay_splitting(trace: &[u8], report: &mut [u8]) -> Result<usize, Fault>
+    ensures { OnPile trace.now report.old report.new result pile.Splitting }
 {
     let mut small = [0; 8192];
     let mut large = [0; 8192];
     let mut last = [0; 4096];
-    replay_splitting(
-        Bitmap::new(&mut small),
-        BoundaryTag::new(&mut large),
-        Bump::new(&mut last),
-        trace,
-        report,
-    )
+    let reused = FreeList::new(Bitmap::new(&mut small), Power);
+    let marked = Affix::new(BoundaryTag::new(&mut large));
+    let rationed = Quota::new(Fallback::new(marked, Bump::new(&mut last)), 10000);
+    let mut pile = Segregator::new(reused, rationed, 256);
+    replay(&mut pile, trace, report)
 }
 
-// The number in a trace's head, 0 where there is no frame.
-fn head_number(trace: &[u8]) -> u32
-    ensures { result ≡ first_number (frames_of trace.now) }
+// The pile that a trace's head names. A trace whose head names none is refused on any pile, so one of them serves.
+fn named_pile(trace: &[u8]) -> Pile
+    ensures { (x : Recording) → recorded trace.now ≡ Ok x → x.pile ≡ result }
 {
-    match read_frame(trace) {
-        Some((head, _)) => head.number,
-        None => 0,
-    }
+    let Some((head, _)) = read_frame(trace) else {
+        return Pile::Bump;
+    };
+    head.pile().unwrap_or(Pile::Bump)
 }
 
-// Replays a trace on the pile that its head names. One that names none is refused on any pile.
+// Replays a trace on the pile that its head names. One that names none is refused on any pile. The trace and the report are the input and the output of each call here; a struct of both would only be taken apart.
 pub fn replay_pile(trace: &[u8], report: &mut [u8]) -> Result<usize, Fault>
     ensures { OnOwnPile trace.now report.old report.new result }
 {
-    let number = head_number(trace);
-    if number == 2 {
-        return replay_bitmap(trace, report);
+    match named_pile(trace) {
+        Pile::Bump => replay_bump(trace, report),
+        Pile::Reusing => replay_reusing(trace, report),
+        Pile::Splitting => replay_splitting(trace, report),
     }
-    if number == 3 {
-        return replay_three(trace, report);
-    }
-    replay_bump(trace, report)
 }
 
 // What the program prints for a trace, in the lent buffer, with its length: the report, or the one line of a refused trace.
 pub fn answer(trace: &[u8], text: &mut [u8]) -> Result<usize, Fault>
     ensures { Answers trace.now text.old text.new result }
 {
+    // By match and not by or_else: of what a closure does to the buffer that it captures, the proof learns nothing.
     match replay_pile(trace, text) {
         Ok(length) => Ok(length),
         Err(fault) => write_refusal(text, fault),

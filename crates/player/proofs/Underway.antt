@@ -10,7 +10,7 @@ use Rattle.heap.proofs.Runnings.{ran_promise}
 use Rattle.heap.proofs.Books.{booked_none}
 use Rattle.trace.specs.declared.frame.Frame.{Frame}
 use Rattle.trace.specs.declared.frame.Action.{Action}
-use Rattle.trace.specs.Frames.{id_of, action_of}
+use Rattle.trace.specs.Frames.{pile_number, id_of, action_of}
 use Rattle.heap.specs.declared.fault.Fault.{Fault}
 use Rattle.heap.specs.declared.fault.Cause.TheVariants.{ReportBuffer}
 use Rattle.heap.specs.declared.fault.Kind.TheVariants.{Replay}
@@ -80,7 +80,7 @@ module _ {S : Type 0} (means : S → Meaning) (keeps : S → History → S → T
   }
 
   -- the report of a whole replay, in a buffer that is long enough
-  pub reported : (trace : List ℕ) (x : Recording) (p : ℕ) (t : Tally) (s s' : S) (out out' : List ℕ) (r : Result ℕ Fault) → recorded trace ≡ Ok x → x.pile ≡ p → Replayed means keeps x.actions t s s' → 256 ≤ length out → Writes (report_text p t) out out' r → Replays means keeps trace s s' out out' r
+  pub reported : (trace : List ℕ) (x : Recording) (p : ℕ) (t : Tally) (s s' : S) (out out' : List ℕ) (r : Result ℕ Fault) → recorded trace ≡ Ok x → pile_number x.pile ≡ p → Replayed means keeps x.actions t s s' → 256 ≤ length out → Writes (report_text p t) out out' r → Replays means keeps trace s s' out out' r
   reported trace x p t s s' out out' (Ok n) e q k long w = (x, t, e, k, subst (λ (z : ℕ). Writes (report_text z t) out out' (Ok n)) (sym q) w)
   reported trace x p t s s' out out' (Err f) e q k long w = absurd (let l = w.0 in let z : ⊥ = omega arith in z)
 

@@ -9,6 +9,7 @@ use Rattle.heap.specs.Meaning.{Meaning, NothingLive}
 use Rattle.heap.specs.Histories.{History, Booked, length_at}
 use Rattle.heap.specs.Runs.{Ran, Promise, after_steps}
 use Rattle.trace.specs.declared.frame.Action.{Action}
+use Rattle.trace.specs.Frames.{pile_number}
 use Rattle.trace.specs.Recordings.{Recording, recorded}
 use Rattle.report.specs.declared.tally.Outcome.{Outcome}
 use Rattle.report.specs.declared.tally.Load.{Load}
@@ -76,5 +77,5 @@ module _ {S : Type 0} (means : S → Meaning) (keeps : S → History → S → T
 
   -- the answer to a trace on a heap from s to s', with a lent buffer from out to out': the report of a replay of what the trace records, and its length; or why the trace or the buffer is refused, and then no frame ran and the buffer is as it was
   abbrev pub Replays : List ℕ → S → S → List ℕ → List ℕ → Result ℕ Fault → Type 0
-  Replays trace s s' out out' (Ok n) = (x : Recording) × (t : Tally) × (recorded trace ≡ Ok x) × Replayed x.actions t s s' × Writes (report_text x.pile t) out out' (Ok n)
+  Replays trace s s' out out' (Ok n) = (x : Recording) × (t : Tally) × (recorded trace ≡ Ok x) × Replayed x.actions t s s' × Writes (report_text (pile_number x.pile) t) out out' (Ok n)
   Replays trace s s' out out' (Err f) = ((recorded trace ≡ Err f) ⊎ ((x : Recording) × (recorded trace ≡ Ok x) × (length out < 256) × (f ≡ raised ReportBuffer Replay 256))) × (s' ≡ s) × (out' ≡ out)

@@ -14,7 +14,7 @@ use heap::fault::{Cause, Fault, Kind};
 use heap::interface::Heap;
 use report::lines::{check_buffer, write_report};
 use report::tally::{Outcome, Tally};
-use trace::frame::{Action, read_frame};
+use trace::frame::{Action, Frames};
 use trace::recording::check_trace;
 
 // The replay's own refusal of a frame, for its id.
@@ -24,54 +24,60 @@ fn refuse(cause: Cause, id: u8) -> Outcome
     Outcome::Refused(Fault::new(cause, Kind::Replay, u32::from(id)))
 }
 
-fn allocate<H: Heap>(heap: &mut H, id: u8, size: u32, slot: Slot) -> (Outcome, Slot)
-    ensures { Acted H.Meant.means H.Meant.keeps (action.Allocate id size) slot heap.old heap.new result }
+fn allocate<H: Heap>(heap: &mut H, id: u8, size: u32, slot: &mut Slot) -> Outcome
+    ensures { Acted H.Meant.means H.Meant.keeps (action.Allocate id size) slot.old heap.old heap.new (result, slot.new) }
 {
-    match slot {
-        Slot::Held(_, _) => (refuse(Cause::SlotTaken, id), slot),
-        Slot::Empty => match heap.allocate(size) {
-            Ok((address, length)) => (Outcome::Granted(length), Slot::Held(address, length)),
-            Err(fault) => (Outcome::Refused(fault), Slot::Empty),
-        },
+    if let Slot::Held(_, _) = *slot {
+        return refuse(Cause::SlotTaken, id);
+    }
+    match heap.allocate(size) {
+        Ok((address, length)) => {
+            *slot = Slot::Held(address, length);
+            Outcome::Granted(length)
+        }
+        Err(fault) => Outcome::Refused(fault),
     }
 }
 
-fn free<H: Heap>(heap: &mut H, id: u8, slot: Slot) -> (Outcome, Slot)
-    ensures { Acted H.Meant.means H.Meant.keeps (action.Free id) slot heap.old heap.new result }
+fn free<H: Heap>(heap: &mut H, id: u8, slot: &mut Slot) -> Outcome
+    ensures { Acted H.Meant.means H.Meant.keeps (action.Free id) slot.old heap.old heap.new (result, slot.new) }
 {
-    match slot {
-        Slot::Empty => (refuse(Cause::SlotEmpty, id), slot),
-        Slot::Held(address, length) => match heap.free(address) {
-            Ok(()) => (Outcome::Freed(length), Slot::Empty),
-            Err(fault) => (Outcome::Refused(fault), slot),
-        },
+    let Slot::Held(address, length) = *slot else {
+        return refuse(Cause::SlotEmpty, id);
+    };
+    match heap.free(address) {
+        Ok(()) => {
+            *slot = Slot::Empty;
+            Outcome::Freed(length)
+        }
+        Err(fault) => Outcome::Refused(fault),
     }
 }
 
 // Fills the whole block of the slot.
-fn fill<H: Heap>(heap: &mut H, id: u8, byte: u8, slot: Slot) -> (Outcome, Slot)
-    ensures { Acted H.Meant.means H.Meant.keeps (action.Fill id byte) slot heap.old heap.new result }
+fn fill<H: Heap>(heap: &mut H, id: u8, byte: u8, slot: Slot) -> Outcome
+    ensures { Acted H.Meant.means H.Meant.keeps (action.Fill id byte) slot heap.old heap.new (result, slot) }
 {
-    match slot {
-        Slot::Empty => (refuse(Cause::SlotEmpty, id), slot),
-        Slot::Held(address, length) => match heap.fill(address, length, byte) {
-            Ok(()) => (Outcome::Done, slot),
-            Err(fault) => (Outcome::Refused(fault), slot),
-        },
+    let Slot::Held(address, length) = slot else {
+        return refuse(Cause::SlotEmpty, id);
+    };
+    match heap.fill(address, length, byte) {
+        Ok(()) => Outcome::Done,
+        Err(fault) => Outcome::Refused(fault),
     }
 }
 
-// Does what a frame asks for. Answers what came of it, and its slot afterwards.
-fn act<H: Heap>(heap: &mut H, action: Action, slot: Slot) -> (Outcome, Slot)
-    ensures { Acted H.Meant.means H.Meant.keeps action slot heap.old heap.new result }
+// Does what a frame asks for, with its slot.
+fn act<H: Heap>(heap: &mut H, action: Action, slot: &mut Slot) -> Outcome
+    ensures { Acted H.Meant.means H.Meant.keeps action slot.old heap.old heap.new (result, slot.new) }
 {
     match action {
         Action::Allocate(id, size) => allocate(heap, id, size, slot),
         Action::Free(id) => free(heap, id, slot),
-        Action::Fill(id, byte) => fill(heap, id, byte, slot),
+        Action::Fill(id, byte) => fill(heap, id, byte, *slot),
         Action::Relief => {
             heap.relief();
-            (Outcome::Done, slot)
+            Outcome::Done
         }
     }
 }
@@ -99,7 +105,8 @@ impl Player {
         ensures { (start : H) (xs : List Action) (os : List Outcome) → length os < 5461 → Going H.Meant.means H.Meant.keeps xs os self.old.slots.table self.old.tally start heap.old → (o : Outcome) × Going H.Meant.means H.Meant.keeps (xs ++ (action ∷ [])) (os ++ (o ∷ [])) self.new.slots.table self.new.tally start heap.new }
     {
         let id = action.id();
-        let (outcome, slot) = act(heap, action, self.slots.at(id));
+        let mut slot = self.slots.at(id);
+        let outcome = act(heap, action, &mut slot);
         self.slots.put(id, slot);
         self.tally.note(outcome);
     }
@@ -111,12 +118,10 @@ fn play<H: Heap>(heap: &mut H, trace: &[u8]) -> Tally
     ensures { Replayed H.Meant.means H.Meant.keeps (actions_in (frames_of trace.now)) result heap.old heap.new }
 {
     let mut player = Player::new();
-    let mut left = trace;
-    while let Some((frame, rest)) = read_frame(left) {
+    for frame in Frames::new(trace) {
         if let Ok(action) = frame.action() {
             player.turn(heap, action);
         }
-        left = rest;
     }
     player.tally
 }
@@ -130,5 +135,5 @@ pub fn replay<H: Heap>(heap: &mut H, trace: &[u8], report: &mut [u8]) -> Result<
     let pile = check_trace(trace)?;
     check_buffer(report)?;
     let tally = play(heap, trace);
-    write_report(report, pile, &tally)
+    write_report(report, pile.number(), &tally)
 }

@@ -2,7 +2,7 @@
 ghost use Rattle.std.specs.Prelude.{◌≡◌, replicate, slice_index_or, slice_set};
 ghost use Rattle.player.specs.declared.slots.Slot.TheVariants.{Empty};
 
-// What an id holds: nothing, or a block by its address and length.
+// What an id holds: nothing, or a block by its address and length. Not an Option: the rules of a replay name the two states of a slot.
 #[derive(Clone, Copy)]
 pub enum Slot {
     Empty,

@@ -1,7 +1,25 @@
 -- Numbers in four bytes, lowest first.
-use Rattle.std.proofs.Common.{◌≡◌, ℕ, ◌+◌, ◌*◌, ◌/◌, ◌%◌, ◌<◌, ◌≤◌, ◌≢◌, ◌⊎◌, List, length, get_or, set, refl, ⊎_elim, arith, length-set, get_or-set_other, get_or-set_same}
+use borrow.Rule.Slice.PartMut.{put_mid}
+use Rattle.std.proofs.Common.{[], ◌∷◌, ap, ◌≡◌, ℕ, zero, suc, ◌+◌, ◌*◌, ◌/◌, ◌%◌, ◌<◌, ◌≤◌, ◌≢◌, ◌⊎◌, List, length, get_or, set, refl, ⊎_elim, arith, length-set, get_or-set_other, get_or-set_same}
 use Rattle.region.specs.Bytes.{word_at, put_word}
 use native.Mathlib.Nat.{div-div-eq-div-mul}
+
+four_from : (p : ℕ) (xs : List ℕ) (a b c d : ℕ) → p + 4 ≤ length xs → put_mid p 4 xs (a ∷ b ∷ c ∷ d ∷ []) ≡ set (set (set (set xs p a) (suc p) b) (suc (suc p)) c) (suc (suc (suc p))) d
+four_from zero (x0 ∷ x1 ∷ x2 ∷ x3 ∷ xs) a b c d h = refl
+four_from zero [] a b c d h = absurd (let z : ⊥ = omega (arith, h) in z)
+four_from zero (x0 ∷ []) a b c d h = absurd (let z : ⊥ = omega (arith, h) in z)
+four_from zero (x0 ∷ x1 ∷ []) a b c d h = absurd (let z : ⊥ = omega (arith, h) in z)
+four_from zero (x0 ∷ x1 ∷ x2 ∷ []) a b c d h = absurd (let z : ⊥ = omega (arith, h) in z)
+four_from (suc p) [] a b c d h = absurd (let z : ⊥ = omega (arith, h) in z)
+four_from (suc p) (x ∷ xs) a b c d h = ap (λ (ys : List ℕ). x ∷ ys) (four_from p xs a b c d (omega (arith, h)))
+
+-- four bytes written at once are the four written one by one
+pub put_four : (p : ℕ) (xs : List ℕ) (a b c d : ℕ) → p + 4 ≤ length xs → put_mid p 4 xs (a ∷ b ∷ c ∷ d ∷ []) ≡ set (set (set (set xs p a) (p + 1) b) (p + 2) c) (p + 3) d
+put_four p xs a b c d h =
+    let one : p + 1 ≡ suc p = omega arith in
+    let two : p + 2 ≡ suc (suc p) = omega arith in
+    let three : p + 3 ≡ suc (suc (suc p)) = omega arith in
+    rw (one, two, three) (four_from p xs a b c d h)
 
 -- a word depends on its four bytes alone
 pub word_same : (xs ys : List ℕ) (p : ℕ) → ((x : ℕ) → p ≤ x → x < p + 4 → get_or ys x 0 ≡ get_or xs x 0) → word_at ys p ≡ word_at xs p

@@ -9,11 +9,10 @@ pub fn word(region: &[u8], p: u32) -> u32
     ensures inside { p + 4 ≤ length region.now → result ≡ word_at region.now p }
     ensures outside { length region.now < p + 4 → result ≡ 0 }
 {
-    let i = p as usize;
-    if region.len() < i + 4 {
-        return 0;
+    match region.get(p as usize..) {
+        Some([a, b, c, d, ..]) => u32::from_le_bytes([*a, *b, *c, *d]),
+        _ => 0,
     }
-    u32::from_le_bytes([region[i], region[i + 1], region[i + 2], region[i + 3]])
 }
 
 // Writes `v` into the four bytes from `p` on, lowest first; nothing where the region ends before.
@@ -21,15 +20,11 @@ pub fn put_word(region: &mut [u8], p: u32, v: u32)
     ensures inside { p + 4 ≤ length region.old → region.new ≡ put_word region.old p v }
     ensures outside { length region.old < p + 4 → region.new ≡ region.old }
 {
-    let i = p as usize;
-    if region.len() < i + 4 {
+    let start = p as usize;
+    if region.len() < start + 4 {
         return;
     }
-    let [a, b, c, d] = v.to_le_bytes();
-    region[i] = a;
-    region[i + 1] = b;
-    region[i + 2] = c;
-    region[i + 3] = d;
+    region[start..start + 4].copy_from_slice(&v.to_le_bytes());
 }
 
 // Sets the `c` bytes from `a` on to `v`; none where the region ends before.
@@ -42,9 +37,7 @@ pub fn paint(region: &mut [u8], a: u32, c: u32, v: u8)
     if region.len() < end {
         return;
     }
-    for i in start..end {
-        region[i] = v;
-    }
+    region[start..end].fill(v);
 }
 
 // The used length, at most 65,536 bytes, rounded down to a multiple of 8.

@@ -2,7 +2,7 @@
 use anyhow::anyhow;
 use std::env;
 use std::io::{BufRead, BufReader, Read};
-use trace::hex::read_digits;
+use trace::digits::read_digits;
 use trace::recording::LONGEST_TRACE;
 
 // How the trace is given, or that help is asked for.
@@ -38,19 +38,14 @@ pub fn read_raw(rt: &HostRuntime) -> anyhow::Result<Vec<u8>> {
 
 // A line without its comment and the blanks around.
 fn content(line: &str) -> &str {
-    match line.split_once('#') {
-        Some((text, _)) => text.trim(),
-        None => line.trim(),
-    }
+    line.split_once('#').map_or(line, |(text, _)| text).trim()
 }
 
 // The frames of hex text, one a line. Every line is tested, and no more is kept than tells a trace that is too long.
 pub fn read_hex(rt: &HostRuntime) -> anyhow::Result<Vec<u8>> {
     let mut trace = Vec::new(rt.alloc());
-    let mut number = 0u64;
-    for line in BufReader::new(rt.alloc(), rt.stdin())?.lines(rt.alloc()) {
+    for (number, line) in (1u64..).zip(BufReader::new(rt.alloc(), rt.stdin())?.lines(rt.alloc())) {
         let line = line?;
-        number = number.saturating_add(1);
         let text = content(line.as_str());
         if text.is_empty() {
             continue;

@@ -42,8 +42,8 @@ fn run(rt: &HostRuntime) -> anyhow::Result<()> {
     let Ok(length) = answer(trace.as_slice(), &mut report) else {
         return Err(anyhow!("no room for the report"));
     };
-    if length <= report.len() {
-        rt.stdout().write_all(&report[0..length])?;
+    if let Some(text) = report.get(0..length) {
+        rt.stdout().write_all(text)?;
     }
     Ok(())
 }

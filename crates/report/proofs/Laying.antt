@@ -1,14 +1,12 @@
--- Texts laid over a buffer, one behind another.
-use Rattle.std.proofs.Common.{◌≡◌, ℕ, zero, suc, ◌+◌, ◌<◌, ◌≤◌, List, [], ◌∷◌, ◌++◌, length, get_or, take, drop, set, sym, refl, ap, ◌∙◌, add-zero, add_assoc, add-one, arith}
+-- Texts written on a page, one behind another.
+use Rattle.std.proofs.Common.{◌≡◌, ℕ, zero, suc, ◌+◌, ◌<◌, ◌≤◌, List, [], ◌∷◌, ◌++◌, length, get_or, take, drop, sym, refl, ap, ◌∙◌, subst, add-zero, add_assoc, arith}
 use Rattle.std.specs.List.{flat_map}
-use Rattle.std.proofs.lemmas.List.{append_assoc, length-append, length-take-le, length-drop, length_push, take-append-drop, take_at, take_more, drop_at, drop-drop, flat_map_more, set_split}
+use Rattle.std.proofs.lemmas.List.{append_assoc, length-append, length-take-le, length-drop, take-append-drop, take_at, take_more, take_all, drop_at, drop-drop, flat_map_more}
+use Rattle.report.specs.declared.lines.Page.{Page}
 use Rattle.report.specs.Lines.{laid}
+use Rattle.report.specs.Pages.{Wrote}
 
--- a text laid over a buffer, and where the next one goes
-abbrev pub Laid : List ℕ → ℕ → List ℕ → ℕ → List ℕ → Type 0
-Laid out at text n out' = (n ≡ at + length text) × (out' ≡ laid out at text)
-
-pub laid_none : (out : List ℕ) (at : ℕ) → out ≡ laid out at []
+laid_none : (out : List ℕ) (at : ℕ) → out ≡ laid out at []
 laid_none out at = rw add-zero (sym (take-append-drop at out))
 
 length_laid : (out : List ℕ) (at : ℕ) (text : List ℕ) → at + length text ≤ length out → length (laid out at text) ≡ length out
@@ -30,32 +28,35 @@ laid_more out out' at n s t room e w =
     ∙ ap (λ (z : List ℕ). take at out ++ z) (sym (append_assoc s t (drop (n + length t) out)))
     ∙ ap (λ (k : ℕ). take at out ++ ((s ++ t) ++ drop k out)) ends
 
+pub wrote_none : (p : Page) → p.written ≤ length p.out.now → Wrote p [] p
+wrote_none p h = record { room = omega arith; end = omega arith; out = laid_none p.out.now p.written; buffer = refl }
+
+-- how long the buffer is stays
+pub length_out : (p q : Page) (s : List ℕ) → Wrote p s q → length q.out.now ≡ length p.out.now
+length_out p q s w = ap length w.out ∙ length_laid p.out.now p.written s w.room
+
 -- a text behind another
-pub laid_on : (out out' out'' : List ℕ) (at n m : ℕ) (s t : List ℕ) → at ≤ length out → Laid out at s n out' → Laid out' n t m out'' → Laid out at (s ++ t) m out''
-laid_on out out' out'' at n m s t room p q =
+pub wrote_on : (p q r : Page) (s t : List ℕ) → Wrote p s q → Wrote q t r → Wrote p (s ++ t) r
+wrote_on p q r s t v w =
     let l = length-append s t in
-    let e = p.0 in
-    let f = q.0 in
-    (omega arith, q.1 ∙ laid_more out out' at n s t room e p.1)
+    let same = length_out p q s v in
+    let before = v.room in
+    let after = w.room in
+    let e = v.end in
+    let f = w.end in
+    let h : p.written ≤ length p.out.now = omega arith in
+    record { room = omega arith; end = omega arith; out = w.out ∙ laid_more p.out.now q.out.now p.written q.written s t h e v.out; buffer = w.buffer ∙ v.buffer }
 
-laid_one : (out : List ℕ) (at v : ℕ) → at < length out → set out at v ≡ laid out at (v ∷ [])
-laid_one out at v h = set_split out at v h ∙ (rw (← add-one at) refl)
-
--- one byte behind a text
-pub laid_push : (out out' : List ℕ) (at n : ℕ) (s : List ℕ) (v : ℕ) → at + length s < length out → n ≡ at + length s → out' ≡ laid out at s → set out' n v ≡ laid out at (s ++ (v ∷ []))
-laid_push out out' at n s v room e w =
-    let same : length out' ≡ length out = ap length w ∙ length_laid out at s (omega arith) in
-    laid_one out' n v (omega arith) ∙ laid_more out out' at n s (v ∷ []) (omega arith) e w
-
--- two bytes behind a text
-pub laid_two : (out out' : List ℕ) (at n : ℕ) (s : List ℕ) (a b : ℕ) → at + length s + 2 ≤ length out → n ≡ at + length s → out' ≡ laid out at s → set (set out' n a) (n + 1) b ≡ laid out at (s ++ (a ∷ b ∷ []))
-laid_two out out' at n s a b room e w =
-    let l : length (s ++ (a ∷ [])) ≡ length s + 1 = length_push s a in
-    laid_push out _ at (n + 1) (s ++ (a ∷ [])) b (omega arith) (omega arith) (laid_push out out' at n s a (omega arith) e w)
-    ∙ ap (laid out at) (append_assoc s (a ∷ []) (b ∷ []))
+-- where there was room for a text that begins so, there is for what comes next
+pub room_left : (p q : Page) (s t : List ℕ) (n : ℕ) → Wrote p s q → length (s ++ t) ≤ n → p.written + n ≤ length p.out.now → q.written + length t ≤ length q.out.now
+room_left p q s t n w few room =
+    let l = length-append s t in
+    let same = length_out p q s w in
+    let e = w.end in
+    omega arith
 
 -- the text of the elements before an index, with that of the one there
-pub grown : {X : Type 0} (f : X → List ℕ) (xs : List X) (i : ℕ) (d : X) → i < length xs → flat_map f (take (i + 1) xs) ≡ flat_map f (take i xs) ++ f (get_or xs i d)
+grown : {X : Type 0} (f : X → List ℕ) (xs : List X) (i : ℕ) (d : X) → i < length xs → flat_map f (take (i + 1) xs) ≡ flat_map f (take i xs) ++ f (get_or xs i d)
 grown f xs i d h = ap (flat_map f) (take_more xs i d h) ∙ sym (flat_map_more f [] (take i xs) (get_or xs i d))
 
 front_shorter : {X : Type 0} (f : X → List ℕ) (j : ℕ) (xs : List X) → length (flat_map f (take j xs)) ≤ length (flat_map f xs)
@@ -63,10 +64,13 @@ front_shorter f zero xs = omega arith
 front_shorter f (suc j) [] = omega arith
 front_shorter f (suc j) (x ∷ xs) = let i = front_shorter f j xs in simp length-append (omega arith)
 
--- is no longer than that of all
-pub room_more : {X : Type 0} (f : X → List ℕ) (xs : List X) (i : ℕ) (d : X) → i < length xs → length (flat_map f (take i xs)) + length (f (get_or xs i d)) ≤ length (flat_map f xs)
-room_more f xs i d h =
-    let g = ap length (grown f xs i d h) in
-    let a = length-append (flat_map f (take i xs)) (f (get_or xs i d)) in
-    let s = front_shorter f (i + 1) xs in
-    omega arith
+-- the elements before an index are written
+module _ {X : Type 0} (f : X → List ℕ) (xs : List X) (p q : Page) (i : ℕ) (w : Wrote p (flat_map f (take i xs)) q) where
+  pub room_at : (d : X) → i < length xs → p.written + length (flat_map f xs) ≤ length p.out.now → q.written + length (f (get_or xs i d)) ≤ length q.out.now
+  room_at d h = room_left p q (flat_map f (take i xs)) (f (get_or xs i d)) (length (flat_map f xs)) w (subst (λ (t : List ℕ). length t ≤ length (flat_map f xs)) (grown f xs i d h) (front_shorter f (i + 1) xs))
+
+  pub wrote_at : (d : X) (r : Page) → i < length xs → Wrote q (f (get_or xs i d)) r → Wrote p (flat_map f (take (i + 1) xs)) r
+  wrote_at d r h v = subst (λ (t : List ℕ). Wrote p t r) (sym (grown f xs i d h)) (wrote_on p q r (flat_map f (take i xs)) (f (get_or xs i d)) w v)
+
+  pub wrote_each : length xs ≤ i → Wrote p (flat_map f xs) q
+  wrote_each h = subst (λ (ys : List X). Wrote p (flat_map f ys) q) (take_all i xs h) w

@@ -1,7 +1,8 @@
 // The report of a tally, in lines of upper-case hex.
-ghost use Rattle.std.specs.Prelude.{◌≡◌, ◌+◌, ◌*◌, ◌<◌, ◌≤◌, [], ◌∷◌, length};
+ghost use Rattle.std.specs.Prelude.{◌≡◌, ◌+◌, ◌<◌, ◌≤◌, [], ◌∷◌, length};
 ghost use Rattle.std.specs.List.{flat_map};
-ghost use Rattle.report.specs.Lines.{digit as hex_digit, hex_byte, hex_field, line, kind_lines, first_line, report_text, refusal_text, laid, checked_buffer, Writes};
+ghost use Rattle.report.specs.Lines.{digit as hex_digit, hex_byte, hex_field, line, kind_lines, first_line, report_text, refusal_text, checked_buffer, Writes};
+ghost use Rattle.report.specs.Pages.{Wrote};
 
 use crate::tally::Tally;
 use heap::fault::{Cause, Fault, Kind};
@@ -24,89 +25,115 @@ fn digit(n: u8) -> u8
     if n < 10 { b'0' + n } else { b'A' + (n - 10) }
 }
 
-// Bytes as two digits each; answers where the next ones go.
-fn put_bytes(out: &mut [u8], at: usize, bytes: &[u8]) -> usize
-    requires { at + 2 * length bytes.now ≤ length out.old }
-    ensures end { result ≡ at + 2 * length bytes.now }
-    ensures text { out.new ≡ laid out.old at (flat_map hex_byte bytes.now) }
-{
-    let mut next = at;
-    for b in bytes {
-        out[next] = digit(*b / 16);
-        out[next + 1] = digit(*b % 16);
-        next += 2;
-    }
-    next
+// A lent buffer that is written from its front.
+#[derive(Drop)]
+struct Page<'a> {
+    out: &'a mut [u8],
+    // how many bytes are written
+    written: usize,
 }
 
-fn put_field(out: &mut [u8], at: usize, field: Field) -> usize
-    requires { at + length (hex_field field) ≤ length out.old }
-    ensures end { result ≡ at + length (hex_field field) }
-    ensures text { out.new ≡ laid out.old at (hex_field field) }
-{
-    match field {
-        Field::Byte(b) => put_bytes(out, at, &[b]),
-        Field::Half(n) => put_bytes(out, at, &n.to_be_bytes()),
-        Field::Word(n) => put_bytes(out, at, &n.to_be_bytes()),
+impl<'a> Page<'a> {
+    fn new(out: &'a mut [u8]) -> Page<'a>
+        ensures buffer { result.out.ghost_name ≡ out.entry.ghost_name }
+        ensures out { result.out.now ≡ out.old }
+        ensures start { result.written ≡ 0 }
+    {
+        Page { out, written: 0 }
     }
-}
 
-// A line of these fields, with its newline.
-fn put_line(out: &mut [u8], at: usize, fields: &[Field]) -> usize
-    requires { at + length (line fields.now) ≤ length out.old }
-    ensures end { result ≡ at + length (line fields.now) }
-    ensures text { out.new ≡ laid out.old at (line fields.now) }
-{
-    let mut next = at;
-    for field in fields {
-        next = put_field(out, next, *field);
+    fn push(&mut self, byte: u8)
+        requires { self.old.written < length self.old.out.now }
+        ensures { Wrote self.old (byte ∷ []) self.new }
+    {
+        self.out[self.written] = byte;
+        self.written += 1;
     }
-    out[next] = b'\n';
-    next + 1
-}
 
-// A line for each kind that refused a frame, in the order of their numbers.
-fn put_kinds(out: &mut [u8], at: usize, kinds: &[u32]) -> usize
-    requires { (length kinds.now ≤ 12) × (at + 13 * length kinds.now ≤ length out.old) }
-    ensures end { result ≡ at + length (kind_lines 0 kinds.now) }
-    ensures text { out.new ≡ laid out.old at (kind_lines 0 kinds.now) }
-{
-    let mut next = at;
-    for (kind, count) in kinds.iter().enumerate() {
-        if *count > 0 {
-            next = put_line(
-                out,
-                next,
-                &[
-                    Field::Byte(0x12),
-                    Field::Byte(kind as u8),
-                    Field::Word(*count),
-                ],
-            );
+    // Bytes as two digits each.
+    fn digits(&mut self, bytes: &[u8])
+        requires { self.old.written + length (flat_map hex_byte bytes.now) ≤ length self.old.out.now }
+        ensures { Wrote self.old (flat_map hex_byte bytes.now) self.new }
+    {
+        for byte in bytes {
+            self.push(digit(*byte / 16));
+            self.push(digit(*byte % 16));
         }
     }
-    next
-}
 
-fn put_first(out: &mut [u8], at: usize, first: Option<(u32, Fault)>) -> usize
-    requires { at + 25 ≤ length out.old }
-    ensures end { result ≡ at + length (first_line first) }
-    ensures text { out.new ≡ laid out.old at (first_line first) }
-{
-    match first {
-        Some((frame, fault)) => put_line(
-            out,
-            at,
-            &[
+    fn field(&mut self, field: Field)
+        requires { self.old.written + length (hex_field field) ≤ length self.old.out.now }
+        ensures { Wrote self.old (hex_field field) self.new }
+    {
+        match field {
+            Field::Byte(n) => self.digits(&[n]),
+            Field::Half(n) => self.digits(&n.to_be_bytes()),
+            Field::Word(n) => self.digits(&n.to_be_bytes()),
+        }
+    }
+
+    // A line of these fields, with its newline.
+    fn line(&mut self, fields: &[Field])
+        requires { self.old.written + length (line fields.now) ≤ length self.old.out.now }
+        ensures { Wrote self.old (line fields.now) self.new }
+    {
+        for field in fields {
+            self.field(*field);
+        }
+        self.push(b'\n');
+    }
+
+    // A line for each kind that refused a frame, in the order of their numbers.
+    fn kinds(&mut self, kinds: &[u32; 12])
+        requires { self.old.written + length (kind_lines 0 kinds.now) ≤ length self.old.out.now }
+        ensures { Wrote self.old (kind_lines 0 kinds.now) self.new }
+    {
+        for (kind, count) in (0..).zip(kinds) {
+            if *count > 0 {
+                self.line(&[Field::Byte(0x12), Field::Byte(kind), Field::Word(*count)]);
+            }
+        }
+    }
+
+    // The line of the first refused frame, where there is one.
+    fn first(&mut self, first: Option<(u32, Fault)>)
+        requires { self.old.written + length (first_line first) ≤ length self.old.out.now }
+        ensures { Wrote self.old (first_line first) self.new }
+    {
+        if let Some((frame, fault)) = first {
+            self.line(&[
                 Field::Byte(0x13),
                 Field::Word(frame),
                 Field::Byte(fault.cause.number()),
                 Field::Byte(fault.kind.number()),
                 Field::Byte(fault.down),
                 Field::Word(fault.place),
-            ],
-        ),
-        None => at,
+            ]);
+        }
+    }
+
+    // The lines of a whole report.
+    fn report(&mut self, pile: u8, tally: &Tally)
+        requires { self.old.written + length (report_text pile tally.now) ≤ length self.old.out.now }
+        ensures { Wrote self.old (report_text pile tally.now) self.new }
+    {
+        self.line(&[
+            Field::Byte(0x10),
+            Field::Byte(pile),
+            Field::Word(tally.frames),
+            Field::Word(tally.granted),
+            Field::Word(tally.freed),
+            Field::Word(tally.refused),
+        ]);
+        self.line(&[
+            Field::Byte(0x11),
+            Field::Half(tally.peak.blocks),
+            Field::Word(tally.peak.bytes),
+            Field::Half(tally.load.blocks),
+            Field::Word(tally.load.bytes),
+        ]);
+        self.kinds(&tally.kinds);
+        self.first(tally.first);
     }
 }
 
@@ -120,36 +147,14 @@ pub fn check_buffer(report: &[u8]) -> Result<(), Fault>
     Ok(())
 }
 
-// Writes the report of a tally into the lent buffer and answers its length.
+// Writes the report of a tally into the lent buffer and answers its length. The pile is a number and no enum, since a report may be of any.
 pub fn write_report(report: &mut [u8], pile: u8, tally: &Tally) -> Result<usize, Fault>
     ensures { Writes (report_text pile tally.now) report.old report.new result }
 {
     check_buffer(report)?;
-    let loads = put_line(
-        report,
-        0,
-        &[
-            Field::Byte(0x10),
-            Field::Byte(pile),
-            Field::Word(tally.frames),
-            Field::Word(tally.granted),
-            Field::Word(tally.freed),
-            Field::Word(tally.refused),
-        ],
-    );
-    let kinds = put_line(
-        report,
-        loads,
-        &[
-            Field::Byte(0x11),
-            Field::Half(tally.peak.blocks),
-            Field::Word(tally.peak.bytes),
-            Field::Half(tally.load.blocks),
-            Field::Word(tally.load.bytes),
-        ],
-    );
-    let first = put_kinds(report, kinds, &tally.kinds);
-    Ok(put_first(report, first, tally.first))
+    let mut page = Page::new(report);
+    page.report(pile, tally);
+    Ok(page.written)
 }
 
 // Writes the one line for a trace that was refused.
@@ -157,10 +162,11 @@ pub fn write_refusal(report: &mut [u8], fault: Fault) -> Result<usize, Fault>
     ensures { Writes (refusal_text fault) report.old report.new result }
 {
     check_buffer(report)?;
-    let fields = [
+    let mut page = Page::new(report);
+    page.line(&[
         Field::Byte(0x1F),
         Field::Byte(fault.cause.number()),
         Field::Word(fault.place),
-    ];
-    Ok(put_line(report, 0, &fields))
+    ]);
+    Ok(page.written)
 }

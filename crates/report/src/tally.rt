@@ -1,11 +1,12 @@
 // The outcomes of a replay's frames, and a tally of them.
-ghost use Rattle.std.specs.Prelude.{◌≡◌, ◌+◌, ◌<◌, max, List, [], ◌∷◌, ◌++◌, length, if◌then◌else◌};
-ghost use Rattle.report.specs.Tallies.{is_granted, is_freed, is_refused, load_after, kinds_of, first_from, tally_of, Loadable, Countable};
+ghost use Rattle.std.specs.Prelude.{◌≡◌, ◌+◌, ◌<◌, max, List, [], ◌∷◌, ◌++◌, length};
+ghost use Rattle.report.specs.declared.tally.Outcome.TheVariants.{Refused};
+ghost use Rattle.report.specs.Tallies.{load_after, kinds_of, tally_of, Loadable, Countable};
 
 use heap::fault::Fault;
 
 // What came of a frame.
-#[derive(Clone, Copy)]
+#[derive(Clone, Copy, PartialEq, Eq, Debug)]
 pub enum Outcome {
     // an allocate: the length of the block that was granted
     Granted(u32),
@@ -17,14 +18,14 @@ pub enum Outcome {
 }
 
 // How many blocks, and how many bytes, are in slots.
-#[derive(Clone, Copy)]
+#[derive(Clone, Copy, PartialEq, Eq, Debug, Default)]
 pub struct Load {
     pub blocks: u16,
     pub bytes: u32,
 }
 
 // What a report tells of the outcomes so far. Counts stop at the largest number of their type.
-#[derive(Clone, Copy)]
+#[derive(Clone, Copy, PartialEq, Eq, Debug, Default)]
 pub struct Tally {
     pub frames: u32,
     pub granted: u32,
@@ -54,8 +55,7 @@ impl Load {
                 blocks: self.blocks.saturating_sub(1),
                 bytes: self.bytes.saturating_sub(length),
             },
-            Outcome::Done => self,
-            Outcome::Refused(_) => self,
+            Outcome::Done | Outcome::Refused(_) => self,
         }
     }
 
@@ -70,56 +70,12 @@ impl Load {
     }
 }
 
-// One more where there was one, to the largest number and no further.
-fn count(n: u32, more: bool) -> u32
-    ensures { n + (if more then 1 else 0) < 4294967296 → result ≡ n + (if more then 1 else 0) }
+// Counts a refusal by the kind of its fault.
+fn count_kind(kinds: &mut [u32; 12], fault: Fault)
+    ensures { (os : List Outcome) → length os + 1 < 4294967296 → kinds.old ≡ kinds_of os → kinds.new ≡ kinds_of (os ++ (Refused fault ∷ [])) }
 {
-    n.saturating_add(u32::from(more))
-}
-
-impl Outcome {
-    fn is_granted(self) -> bool
-        ensures { result ≡ is_granted self }
-    {
-        matches!(self, Outcome::Granted(_))
-    }
-
-    fn is_freed(self) -> bool
-        ensures { result ≡ is_freed self }
-    {
-        matches!(self, Outcome::Freed(_))
-    }
-
-    fn is_refused(self) -> bool
-        ensures { result ≡ is_refused self }
-    {
-        matches!(self, Outcome::Refused(_))
-    }
-}
-
-// The refusals by kind with this outcome.
-fn count_kind(kinds: [u32; 12], outcome: Outcome) -> [u32; 12]
-    ensures { (os : List Outcome) → length os + 1 < 4294967296 → kinds ≡ kinds_of os → result ≡ kinds_of (os ++ (outcome ∷ [])) }
-{
-    let mut counts = kinds;
-    if let Outcome::Refused(fault) = outcome {
-        let kind = usize::from(fault.kind.number());
-        counts[kind] = count(counts[kind], true);
-    }
-    counts
-}
-
-// The first refusal with this outcome, of the frame of this number.
-fn first_of(first: Option<(u32, Fault)>, frame: u32, outcome: Outcome) -> Option<(u32, Fault)>
-    ensures { (os : List Outcome) → frame ≡ length os + 1 → first ≡ first_from 1 os → result ≡ first_from 1 (os ++ (outcome ∷ [])) }
-{
-    match first {
-        Some(refusal) => Some(refusal),
-        None => match outcome {
-            Outcome::Refused(fault) => Some((frame, fault)),
-            _ => None,
-        },
-    }
+    let kind = usize::from(fault.kind.number());
+    kinds[kind] = kinds[kind].saturating_add(1);
 }
 
 impl Tally {
@@ -127,33 +83,25 @@ impl Tally {
     pub fn new() -> Tally
         ensures { result ≡ tally_of [] }
     {
-        let none = Load {
-            blocks: 0,
-            bytes: 0,
-        };
-        Tally {
-            frames: 0,
-            granted: 0,
-            freed: 0,
-            refused: 0,
-            load: none,
-            peak: none,
-            kinds: [0; 12],
-            first: None,
-        }
+        Tally::default()
     }
 
     // The tally with one frame more.
     pub fn note(&mut self, outcome: Outcome)
         ensures { (os : List Outcome) → Countable (os ++ (outcome ∷ [])) → self.old ≡ tally_of os → self.new ≡ tally_of (os ++ (outcome ∷ [])) }
     {
-        self.frames = count(self.frames, true);
-        self.granted = count(self.granted, outcome.is_granted());
-        self.freed = count(self.freed, outcome.is_freed());
-        self.refused = count(self.refused, outcome.is_refused());
+        self.frames = self.frames.saturating_add(1);
+        match outcome {
+            Outcome::Granted(_) => self.granted = self.granted.saturating_add(1),
+            Outcome::Freed(_) => self.freed = self.freed.saturating_add(1),
+            Outcome::Done => {}
+            Outcome::Refused(fault) => {
+                self.refused = self.refused.saturating_add(1);
+                count_kind(&mut self.kinds, fault);
+                self.first = self.first.or(Some((self.frames, fault)));
+            }
+        }
         self.load = self.load.after(outcome);
         self.peak = self.peak.most(self.load);
-        self.kinds = count_kind(self.kinds, outcome);
-        self.first = first_of(self.first, self.frames, outcome);
     }
 }

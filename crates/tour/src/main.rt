@@ -1,7 +1,7 @@
 // A tour of a pile of six layers: makes a list of calls on it and prints each one with its answer, then the live blocks; a block between the marks of an affix; and a boundary tag heap that joins three chunks.
 #![tactic(auto)]
 
-mod words;
+mod lines;
 
 use boundary_tag::BoundaryTag;
 use bump::Bump;
@@ -12,9 +12,9 @@ use heap::rounding::{Grain, Power};
 use layers::affix::Affix;
 use layers::quota::Quota;
 use layers::rounded::Rounded;
+use lines::{print_blocks, print_steps};
 use pairs::fallback::Fallback;
 use pairs::segregator::Segregator;
-use words::{print_blocks, print_steps};
 
 const THRESHOLD: u32 = 64;
 
@@ -71,32 +71,28 @@ const CHUNKS: [Call; 9] = [
     Call::Offer(112),
 ];
 
-// Writes the calls of a script into the steps, makes them and prints them.
-fn show<H: Heap>(
-    rt: &HostRuntime,
-    heap: &mut H,
-    steps: &mut [Step],
-    script: &[Call],
-) -> anyhow::Result<()> {
-    for (step, call) in steps.iter_mut().zip(script.iter()) {
-        *step = Step::new(*call);
-    }
+// Makes the calls and prints each one with its answer.
+fn show<H: Heap>(rt: &HostRuntime, heap: &mut H, steps: &mut [Step]) -> anyhow::Result<()> {
     run(heap, steps);
     print_steps(rt, steps)
 }
 
-// Small sizes from a free list, large ones under a quota from marked blocks, or from a last heap once those are full. The bottoms come as parameters: the checker does not cover a function in which a layer stands over a free list over a lent region.
-fn tour_pile<A: Heap + Drop, B: Heap + Drop, C: Heap + Drop>(
-    rt: &HostRuntime,
-    small: A,
-    large: B,
-    last: C,
-) -> anyhow::Result<()> {
-    let reused = FreeList::new(Rounded::new(small, Power), Grain);
-    let marked = Fallback::new(Affix::new(large), last);
+// Small sizes from a free list, large ones under a quota from marked blocks, or from a last heap once those are full.
+fn tour_pile(rt: &HostRuntime) -> anyhow::Result<()> {
+    let mut small = [0u8; SMALL];
+    let mut large = [0u8; LARGE];
+    let mut last = [0u8; LAST];
+    println!(rt; "segregator at {THRESHOLD} of")?;
+    println!(rt;
+        "  free list (multiples of 8) over rounding (powers of 2) over bump on {SMALL} bytes"
+    )?;
+    println!(rt;
+        "  quota {LIMIT} over fallback of affix over bump on {LARGE} bytes and bump on {LAST} bytes"
+    )?;
+    let reused = FreeList::new(Rounded::new(Bump::new(&mut small), Power), Grain);
+    let marked = Fallback::new(Affix::new(Bump::new(&mut large)), Bump::new(&mut last));
     let mut pile = Segregator::new(reused, Quota::new(marked, LIMIT), THRESHOLD);
-    let mut steps = [Step::new(Call::Relief); 26];
-    show(rt, &mut pile, &mut steps, &SCRIPT)?;
+    show(rt, &mut pile, &mut SCRIPT.map(Step::new))?;
     print_blocks(rt, &pile)
 }
 
@@ -105,8 +101,7 @@ fn tour_chunks(rt: &HostRuntime) -> anyhow::Result<()> {
     let mut region = [0u8; 128];
     let mut heap = BoundaryTag::new(&mut region);
     println!(rt; "boundary tag on 128 bytes")?;
-    let mut steps = [Step::new(Call::Relief); 9];
-    show(rt, &mut heap, &mut steps, &CHUNKS)
+    show(rt, &mut heap, &mut CHUNKS.map(Step::new))
 }
 
 // Whether a block's marks are as they were written.
@@ -123,27 +118,8 @@ fn tour_marks(rt: &HostRuntime) -> anyhow::Result<()> {
     Ok(())
 }
 
-fn tour(rt: &HostRuntime) -> anyhow::Result<()> {
-    let mut small = [0u8; SMALL];
-    let mut large = [0u8; LARGE];
-    let mut last = [0u8; LAST];
-    println!(rt; "segregator at {THRESHOLD} of")?;
-    println!(rt;
-        "  free list (multiples of 8) over rounding (powers of 2) over bump on {SMALL} bytes"
-    )?;
-    println!(rt;
-        "  quota {LIMIT} over fallback of affix over bump on {LARGE} bytes and bump on {LAST} bytes"
-    )?;
-    tour_pile(
-        rt,
-        Bump::new(&mut small),
-        Bump::new(&mut large),
-        Bump::new(&mut last),
-    )?;
-    tour_marks(rt)?;
-    tour_chunks(rt)
-}
-
 fn main(rt: HostRuntime) -> anyhow::Result<()> {
-    tour(&rt)
+    tour_pile(&rt)?;
+    tour_marks(&rt)?;
+    tour_chunks(&rt)
 }

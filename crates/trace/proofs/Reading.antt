@@ -6,12 +6,12 @@ use Rattle.trace.specs.declared.frame.Frame.{Frame}
 use Rattle.trace.specs.Frames.{frame_bytes, frames_of, trace_bytes}
 
 pub six : (xs : List ℕ) → 6 ≤ length xs → xs ≡ get_or xs 0 0 ∷ get_or xs 1 0 ∷ get_or xs 2 0 ∷ get_or xs 3 0 ∷ get_or xs 4 0 ∷ get_or xs 5 0 ∷ drop 6 xs
-six [] h = absurd (let z : ⊥ = omega arith in z)
-six (_ ∷ []) h = absurd (let z : ⊥ = omega arith in z)
-six (_ ∷ _ ∷ []) h = absurd (let z : ⊥ = omega arith in z)
-six (_ ∷ _ ∷ _ ∷ []) h = absurd (let z : ⊥ = omega arith in z)
-six (_ ∷ _ ∷ _ ∷ _ ∷ []) h = absurd (let z : ⊥ = omega arith in z)
-six (_ ∷ _ ∷ _ ∷ _ ∷ _ ∷ []) h = absurd (let z : ⊥ = omega arith in z)
+six [] h = absurd (omega arith)
+six (_ ∷ []) h = absurd (omega arith)
+six (_ ∷ _ ∷ []) h = absurd (omega arith)
+six (_ ∷ _ ∷ _ ∷ []) h = absurd (omega arith)
+six (_ ∷ _ ∷ _ ∷ _ ∷ []) h = absurd (omega arith)
+six (_ ∷ _ ∷ _ ∷ _ ∷ _ ∷ []) h = absurd (omega arith)
 six (_ ∷ _ ∷ _ ∷ _ ∷ _ ∷ _ ∷ xs) h = refl
 
 -- the four bytes of a number
@@ -43,11 +43,11 @@ module _ (xs : List ℕ) (n : ℕ) (some : 6 ≤ length xs) (e : n ≡ get_or xs
 -- a trace of whole frames is its frames written again
 pub written_again : (xs : List ℕ) → ((i : ℕ) → get_or xs i 0 < 256) → length xs % 6 ≡ 0 → trace_bytes (frames_of xs) ≡ xs
 written_again [] b w = refl
-written_again (_ ∷ []) b w = absurd (let z : ⊥ = omega arith in z)
-written_again (_ ∷ _ ∷ []) b w = absurd (let z : ⊥ = omega arith in z)
-written_again (_ ∷ _ ∷ _ ∷ []) b w = absurd (let z : ⊥ = omega arith in z)
-written_again (_ ∷ _ ∷ _ ∷ _ ∷ []) b w = absurd (let z : ⊥ = omega arith in z)
-written_again (_ ∷ _ ∷ _ ∷ _ ∷ _ ∷ []) b w = absurd (let z : ⊥ = omega arith in z)
+written_again (_ ∷ []) b w = absurd (omega arith)
+written_again (_ ∷ _ ∷ []) b w = absurd (omega arith)
+written_again (_ ∷ _ ∷ _ ∷ []) b w = absurd (omega arith)
+written_again (_ ∷ _ ∷ _ ∷ _ ∷ []) b w = absurd (omega arith)
+written_again (_ ∷ _ ∷ _ ∷ _ ∷ _ ∷ []) b w = absurd (omega arith)
 written_again (k ∷ i ∷ a ∷ c ∷ d ∷ e ∷ xs) b w =
     let n = a * 16777216 + c * 65536 + d * 256 + e in
     let i1 : trace_bytes (frames_of xs) ≡ xs = written_again xs (λ j. b (suc (suc (suc (suc (suc (suc j))))))) (omega arith) in
@@ -56,6 +56,16 @@ written_again (k ∷ i ∷ a ∷ c ∷ d ∷ e ∷ xs) b w =
     let r = third a c d e n (b 4) (b 5) refl in
     let s = lowest a c d e n (b 5) refl in
     rw (p, q, r, s, i1) refl
+
+-- no more frames than there is room for
+pub length_frames : (xs : List ℕ) → 6 * length (frames_of xs) ≤ length xs
+length_frames [] = omega arith
+length_frames (_ ∷ []) = omega arith
+length_frames (_ ∷ _ ∷ []) = omega arith
+length_frames (_ ∷ _ ∷ _ ∷ []) = omega arith
+length_frames (_ ∷ _ ∷ _ ∷ _ ∷ []) = omega arith
+length_frames (_ ∷ _ ∷ _ ∷ _ ∷ _ ∷ []) = omega arith
+length_frames (_ ∷ _ ∷ _ ∷ _ ∷ _ ∷ _ ∷ xs) = let i = length_frames xs in omega arith
 
 -- what stands behind written frames is read behind them
 frames_append : (fs : List Frame) (ys : List ℕ) → frames_of (trace_bytes fs ++ ys) ≡ frames_of (trace_bytes fs) ++ frames_of ys

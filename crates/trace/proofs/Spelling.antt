@@ -1,38 +1,45 @@
--- Hex digits read two by two.
-use Rattle.std.proofs.Common.{◌≡◌, ℕ, ◌+◌, ◌*◌, ◌<◌, ◌≤◌, List, [], ◌∷◌, ◌++◌, length, get_or, take, drop, set, Some, None, Option, sym, refl, ap, ◌∙◌, arith}
-use Rattle.std.proofs.lemmas.List.{drop_more, drop_all, take_more_set, take_all, append_assoc, append-nil}
-use Rattle.trace.specs.Digits.{pair_value, in_front, bytes_in, behind}
+-- A frame's digits, as the crate `hex` decodes them.
+use Rattle.std.proofs.Common.{◌≡◌, ℕ, ◌+◌, ◌*◌, ◌/◌, ◌%◌, ◌==◌, cond, List, [], ◌∷◌, length, Some, None, Option, Ok, Err, Result, refl, ◌∙◌, arith}
+use Rattle.std.specs.Result.{result_ok}
+use Rattle.std.proofs.lemmas.Bool.Decides.{nat_tests}
+use Rattle.hex.specs.Hex.{hex_digit_value, digit_or_error, value_at, decode_pairs, decode_sized, ◌>>=◌}
+use Rattle.hex.specs.Hex.{pair_value as hex_pair}
+use Rattle.hex.specs.declared.error.FromHexError.{FromHexError}
+use Rattle.hex.specs.declared.error.FromHexError.TheVariants.{OddLength, InvalidStringLength}
+use Rattle.trace.specs.Digits.{digit_value, both, pair_value, in_front, bytes_in, frame_digits}
 
--- the next two digits
-next : (text : List ℕ) (i : ℕ) → 2 * i + 1 < length text → bytes_in (drop (2 * i) text) ≡ in_front (pair_value (get_or text (2 * i) 0) (get_or text (2 * i + 1) 0)) (bytes_in (drop (2 * (i + 1)) text))
-next text i h =
-    let a = drop_more text (2 * i) 0 (omega arith) in
-    let b = drop_more text (2 * i + 1) 0 h in
-    let e : 2 * i + 1 + 1 ≡ 2 * (i + 1) = omega arith in
-    ap bytes_in (a ∙ ap (λ (z : List ℕ). get_or text (2 * i) 0 ∷ z) b) ∙ ap (λ (n : ℕ). in_front (pair_value (get_or text (2 * i) 0) (get_or text (2 * i + 1) 0)) (bytes_in (drop n text))) e
+same_digit : (d : ℕ) → hex_digit_value d ≡ digit_value d
+same_digit d = grind (arith, nat_tests)
 
-module _ (text bytes : List ℕ) (i : ℕ) (all : Option (List ℕ)) (h : 2 * i + 1 < length text) (w : all ≡ behind (take i bytes) (bytes_in (drop (2 * i) text))) where
-  pub spelled_more : (b : ℕ) → i < length bytes → Some b ≡ pair_value (get_or text (2 * i) 0) (get_or text (2 * i + 1) 0) → all ≡ behind (take (i + 1) (set bytes i b)) (bytes_in (drop (2 * (i + 1)) text))
-  spelled_more b l e =
-      w ∙ ap (behind (take i bytes)) (next text i h)
-      ∙ ap (λ (z : Option ℕ). behind (take i bytes) (in_front z (bytes_in (drop (2 * (i + 1)) text)))) (sym e)
-      ∙ moved (bytes_in (drop (2 * (i + 1)) text))
-      ∙ ap (λ (z : List ℕ). behind z (bytes_in (drop (2 * (i + 1)) text))) (sym (take_more_set bytes i b l))
-    where
-      moved : (r : Option (List ℕ)) → behind (take i bytes) (in_front (Some b) r) ≡ behind (take i bytes ++ (b ∷ [])) r
-      moved (Some cs) = ap (λ (z : List ℕ). Some z) (sym (append_assoc (take i bytes) (b ∷ []) cs))
-      moved None = refl
+same_value : (d i : ℕ) → result_ok (value_at d i) ≡ digit_value d
+same_value d i = by_value (hex_digit_value d) ∙ same_digit d
+  where
+    by_value : (o : Option ℕ) → result_ok (digit_or_error d i o) ≡ o
+    by_value (Some v) = refl
+    by_value None = refl
 
-  pub misspelled : None ≡ pair_value (get_or text (2 * i) 0) (get_or text (2 * i + 1) 0) → all ≡ None
-  misspelled e = w ∙ ap (behind (take i bytes)) (next text i h) ∙ ap (λ (z : Option ℕ). behind (take i bytes) (in_front z (bytes_in (drop (2 * (i + 1)) text)))) (sym e)
+same_pair : (h l i : ℕ) → result_ok (hex_pair h l i) ≡ pair_value h l
+same_pair h l i = joins (value_at h i) (value_at l (i + 1)) ∙ (rw (same_value h i, same_value l (i + 1)) refl)
+  where
+    joins : (r s : Result ℕ FromHexError) → result_ok (r >>= (λ a. s >>= (λ b. Ok (a * 16 + b)))) ≡ both (result_ok r) (result_ok s)
+    joins (Ok a) (Ok b) = refl
+    joins (Ok a) (Err e) = refl
+    joins (Err e) s = refl
 
-pub behind_none : (r : Option (List ℕ)) → r ≡ behind [] r
-behind_none (Some cs) = refl
-behind_none None = refl
+same_bytes : (i : ℕ) (text : List ℕ) → result_ok (decode_pairs i text) ≡ bytes_in text
+unfolding decode_pairs
+same_bytes i [] = refl
+same_bytes i (d ∷ []) = refl
+same_bytes i (h ∷ l ∷ ds) = joins (hex_pair h l i) (decode_pairs (i + 2) ds) ∙ (rw (same_pair h l i, same_bytes (i + 2) ds) refl)
+  where
+    joins : (r : Result ℕ FromHexError) (s : Result (List ℕ) FromHexError) → result_ok (r >>= (λ b. s >>= (λ bs. Ok (b ∷ bs)))) ≡ in_front (result_ok r) (result_ok s)
+    joins (Ok b) (Ok bs) = refl
+    joins (Ok b) (Err e) = refl
+    joins (Err e) s = refl
 
--- at the end of the digits
-pub spelled : (text bytes : List ℕ) (i : ℕ) (all : Option (List ℕ)) → length text ≤ 2 * i → length bytes ≤ i → all ≡ behind (take i bytes) (bytes_in (drop (2 * i) text)) → all ≡ Some bytes
-spelled text bytes i all l m w =
-    w ∙ ap (λ (z : List ℕ). behind z (bytes_in (drop (2 * i) text))) (take_all i bytes m)
-    ∙ ap (λ (z : List ℕ). behind bytes (bytes_in z)) (drop_all (2 * i) text l)
-    ∙ ap (λ (z : List ℕ). Some z) (append-nil bytes)
+-- twelve digits are room for six bytes, and no other number is
+twelve : (n : ℕ) (r : Result (List ℕ) FromHexError) (o : Option (List ℕ)) → result_ok r ≡ o → result_ok (cond (n % 2 == 1) (Err OddLength) (cond (n / 2 == 6) r (Err InvalidStringLength))) ≡ cond (n == 12) o None
+twelve n r o e = grind (arith, nat_tests)
+
+pub spelled : (text : List ℕ) → result_ok (decode_sized text 6) ≡ frame_digits text
+spelled text = twelve (length text) (decode_pairs 0 text) (bytes_in text) (same_bytes 0 text)

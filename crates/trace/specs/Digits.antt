@@ -1,5 +1,5 @@
 -- Bytes in hex digits.
-use Rattle.std.specs.Prelude.{ℕ, ◌+◌, ◌-◌, ◌*◌, cond, ◌&&◌, List, [], ◌∷◌, ◌++◌, length, Some, None, Option, ◌==◌, nat_le}
+use Rattle.std.specs.Prelude.{ℕ, ◌+◌, ◌-◌, ◌*◌, cond, ◌&&◌, List, [], ◌∷◌, length, Some, None, Option, ◌==◌, nat_le}
 
 -- what a digit stands for: 0 to 9, A to F or a to f
 abbrev pub digit_value : ℕ → Option ℕ
@@ -26,11 +26,6 @@ abbrev pub bytes_in : List ℕ → Option (List ℕ)
 bytes_in [] = Some []
 bytes_in (d ∷ []) = None
 bytes_in (h ∷ l ∷ ds) = in_front (pair_value h l) (bytes_in ds)
-
--- bytes in front of those of the digits that are left
-abbrev pub behind : List ℕ → Option (List ℕ) → Option (List ℕ)
-behind bs (Some cs) = Some (bs ++ cs)
-behind bs None = None
 
 -- a frame's bytes in twelve digits
 abbrev pub frame_digits : List ℕ → Option (List ℕ)

@@ -4,6 +4,9 @@ use Rattle.std.specs.List.{flat_map}
 use Rattle.heap.specs.declared.fault.Cause.{Cause}
 use Rattle.heap.specs.declared.fault.Cause.TheVariants.{FrameKind, FrameField, PileNumber}
 use Rattle.trace.specs.declared.frame.Frame.{Frame}
+use Rattle.trace.specs.declared.frame.Frames.{Frames}
+use Rattle.trace.specs.declared.frame.Pile.{Pile}
+use Rattle.trace.specs.declared.frame.Pile.TheVariants.{Bump, Reusing, Splitting}
 use Rattle.trace.specs.declared.frame.Action.{Action}
 use Rattle.trace.specs.declared.frame.Action.TheVariants.{Allocate, Free, Fill, Relief}
 
@@ -29,11 +32,27 @@ abbrev pub Wrote : List Frame → List ℕ → List ℕ → Option ℕ → Type 
 Wrote fs out out' (Some n) = (n ≡ 6 * length fs) × (n ≤ length out) × (out' ≡ trace_bytes fs ++ drop n out) × (frames_of (take n out') ≡ fs)
 Wrote fs out out' None = (length out < 6 * length fs) × (out' ≡ out)
 
--- the pile that a head names: its kind is 0, it uses no id, and there are piles 1 to 3
-abbrev pub pile_of : Frame → Result ℕ Cause
+-- the frames that an iterator has still to give
+abbrev pub frames_left : Frames → List Frame
+frames_left it = frames_of it.rest.now
+
+abbrev pub pile_number : Pile → ℕ
+pile_number Bump = 1
+pile_number Reusing = 2
+pile_number Splitting = 3
+
+-- the pile of a number: there are piles 1 to 3
+abbrev pub pile_numbered : ℕ → Result Pile Cause
+pile_numbered n =
+    cond (n == 1) (Ok Bump)
+    (cond (n == 2) (Ok Reusing)
+    (cond (n == 3) (Ok Splitting) (Err PileNumber)))
+
+-- the pile that a head names: its kind is 0, and it uses no id
+abbrev pub pile_of : Frame → Result Pile Cause
 pile_of f =
     cond (f.kind == 0)
-    (cond (f.id == 0) (cond (nat_le 1 f.number && nat_le f.number 3) (Ok f.number) (Err PileNumber)) (Err FrameField))
+    (cond (f.id == 0) (pile_numbered f.number) (Err FrameField))
     (Err FrameKind)
 
 -- what a frame behind the head asks for, by its kind: a field that the kind does not use is 0, and a fill has a byte for its number

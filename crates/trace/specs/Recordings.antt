@@ -7,6 +7,7 @@ use Rattle.heap.specs.declared.fault.Kind.TheVariants.{Replay}
 use Rattle.heap.specs.Faults.{raised, and_then}
 use Rattle.trace.specs.declared.frame.Frame.{Frame}
 use Rattle.trace.specs.declared.frame.Action.{Action}
+use Rattle.trace.specs.declared.frame.Pile.{Pile}
 use Rattle.trace.specs.Frames.{frames_of, pile_of, action_of}
 
 abbrev pub listed : Result Action Cause → List Action
@@ -14,7 +15,7 @@ listed (Ok a) = a ∷ []
 listed (Err c) = []
 
 pub record Recording : Type 0 where
-  pub pile : ℕ
+  pub pile : Pile
   pub actions : List Action
 
 -- what the test of frame k found, as the answer for the trace
@@ -45,9 +46,5 @@ abbrev pub recorded : List ℕ → Result Recording Fault
 recorded bytes = cond (nat_le (length bytes) 32766 && length bytes % 6 == 0) (recording_of (frames_of bytes)) (Err bad_length)
 
 -- the pile of a recording
-abbrev pub recorded_pile : Result Recording Fault → Result ℕ Fault
+abbrev pub recorded_pile : Result Recording Fault → Result Pile Fault
 recorded_pile r = and_then r (λ x. Ok x.pile)
-
--- whether a test was passed, or the fault
-abbrev pub passed : {A : Type 0} → Result A Fault → Result (Unit {0}) Fault
-passed r = and_then r (λ _. Ok tt)

@@ -1,9 +1,9 @@
 // The test of a whole trace, and a trace written from frames.
 ghost use Rattle.std.specs.Prelude.{◌≡◌, ℕ, ◌*◌, ◌%◌, ◌<◌, ◌≤◌, [], ◌∷◌, ◌++◌, length};
 ghost use Rattle.trace.specs.Frames.{frames_of, trace_bytes, Wrote};
-ghost use Rattle.trace.specs.Recordings.{recorded, recorded_pile, recording_of, actions_from, at_frame, passed};
+ghost use Rattle.trace.specs.Recordings.{recorded, recorded_pile, recording_of, at_frame};
 
-use crate::frame::{Frame, read_frame};
+use crate::frame::{Frame, Frames, Pile};
 use heap::fault::{Cause, Fault, Kind};
 
 // The longest trace, in bytes.
@@ -13,44 +13,27 @@ pub const LONGEST_TRACE: usize = 32766;
 fn at_frame<T>(found: Result<T, Cause>, place: u32) -> Result<T, Fault>
     ensures { result ≡ at_frame place found }
 {
-    match found {
-        Ok(value) => Ok(value),
-        Err(cause) => Err(Fault::new(cause, Kind::Replay, place)),
-    }
+    found.map_err(|cause| Fault::new(cause, Kind::Replay, place))
 }
 
-// The frames behind the head, numbered from 1 on.
-fn check_actions(frames: &[u8]) -> Result<(), Fault>
-    requires { length frames.now ≤ 32766 }
-    ensures { result ≡ passed (actions_from 1 (frames_of frames.now)) }
-{
-    let mut left = frames;
-    let mut place = 1;
-    while let Some((frame, rest)) = read_frame(left) {
-        at_frame(frame.action(), place)?;
-        place += 1;
-        left = rest;
-    }
-    Ok(())
-}
-
-// The head, then the frames behind it.
-fn check_frames(trace: &[u8]) -> Result<u8, Fault>
+// The head, then the frames behind it, numbered from 1 on.
+fn check_frames(trace: &[u8]) -> Result<Pile, Fault>
     requires { length trace.now ≤ 32766 }
     ensures { result ≡ recorded_pile (recording_of (frames_of trace.now)) }
 {
-    let Some((head, rest)) = read_frame(trace) else {
-        return Err(Fault::new(Cause::TraceLength, Kind::Replay, 0));
-    };
+    let mut frames = Frames::new(trace);
+    let head = at_frame(frames.next().ok_or(Cause::TraceLength), 0)?;
     let pile = at_frame(head.pile(), 0)?;
-    check_actions(rest)?;
+    for (frame, place) in frames.zip(1..) {
+        at_frame(frame.action(), place)?;
+    }
     Ok(pile)
 }
 
 // Tests a trace: its length, then frame after frame. Answers the pile that its head names, or the first refusal.
 //
 // `whole`: where the trace is whole frames, its frames written again are the trace.
-pub fn check_trace(trace: &[u8]) -> Result<u8, Fault>
+pub fn check_trace(trace: &[u8]) -> Result<Pile, Fault>
     ensures pile { result ≡ recorded_pile (recorded trace.now) }
     ensures whole { length trace.now % 6 ≡ 0 → trace_bytes (frames_of trace.now) ≡ trace.now }
 {
@@ -67,6 +50,7 @@ pub fn write_trace(frames: &[Frame], out: &mut [u8]) -> Option<usize>
     if out.len() / 6 < frames.len() {
         return None;
     }
+    // By index: of a slice that is lent in chunks, or part by part, the proof knows nothing afterwards.
     for (i, frame) in frames.iter().enumerate() {
         let bytes = frame.to_bytes();
         out[6 * i..6 * i + 6].copy_from_slice(&bytes);

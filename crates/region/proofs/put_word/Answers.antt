@@ -1,13 +1,15 @@
-use Rattle.std.proofs.Common.{ℕ, ◌+◌, List, get_or, set, ap, arith}
+use Rattle.std.proofs.Common.{◌≡◌, ℕ, ◌+◌, ◌-◌, List, ap, ◌∙◌, arith}
+use borrow.Rule.Slice.PartMut.{put_mid}
 use Rattle.region.specs.Bytes.{put_word}
+use Rattle.region.proofs.Words.{put_four}
 use Rattle.region.proofs.put_word.Goals as goal
 
-pub returns : goal.returns
+pub returns-clause-inside : goal.returns-clause-inside
 unfolding put_word
-returns c =
-    let xs = c.args.region.now in
+returns-clause-inside c h =
     let p = c.args.p in
-    record {
-      inside = λ h. ap (λ (bs : List ℕ). set (set (set (set xs p (get_or bs 0 0)) (p + 1) (get_or bs 1 0)) (p + 2) (get_or bs 2 0)) (p + 3) (get_or bs 3 0)) c.to_le_bytes.ensures;
-      outside = λ h. absurd (let z : ⊥ = omega arith in z);
-    }
+    let xs = c.args.region.now in
+    let four : p + 4 - p ≡ 4 = omega arith in
+    ap (λ (k : ℕ). put_mid p k xs c.copy_from_slice.new.self) four
+    ∙ ap (λ (bs : List ℕ). put_mid p 4 xs bs) (c.copy_from_slice.ensures.after ∙ c.to_le_bytes.ensures)
+    ∙ put_four p xs _ _ _ _ h

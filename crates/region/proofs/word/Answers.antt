@@ -1,7 +1,21 @@
-use Rattle.std.proofs.Common.{arith}
+use Rattle.std.proofs.Common.{◌≡◌, ◌+◌, ◌<◌, ℕ, length, get_or, subst, arith}
+use Rattle.std.specs.List.{between}
+use Rattle.std.proofs.lemmas.List.Edits.{get_or-between}
 use Rattle.region.specs.Bytes.{word_at}
 use Rattle.region.proofs.word.Goals as goal
 
-pub returns : goal.returns
+pub returns-in-Some-len4-up-clause-inside : goal.returns-in-Some-len4-up-clause-inside
 unfolding word_at
-returns c = record { inside = λ h. c.from_le_bytes.ensures; outside = λ h. absurd (let z : ⊥ = omega arith in z) }
+returns-in-Some-len4-up-clause-inside c h =
+    let p = c.args.p in
+    let xs = c.args.region.now in
+    let ys = c.in-Some-len4-up.field-0.now in
+    let part : ys ≡ between p (length xs) xs = c.in-Some-len4-up.ensures.lookup.0.2 in
+    let same : (i : ℕ) → p + i < length xs → get_or ys i 0 ≡ get_or xs (p + i) 0 = λ i l. rw part (get_or-between xs p (length xs) i 0 l) in
+    let value = c.from_le_bytes.ensures in
+    let start : p + 0 ≡ p = omega arith in
+    let a : get_or ys 0 0 ≡ get_or xs p 0 = subst (λ (k : ℕ). get_or ys 0 0 ≡ get_or xs k 0) start (same 0 (omega arith)) in
+    let b = same 1 (omega arith) in
+    let d = same 2 (omega arith) in
+    let e = same 3 (omega arith) in
+    omega arith

@@ -3,42 +3,35 @@ use Rattle.std.proofs.lemmas.Result.{err_from_is_err_and}
 use Rattle.heap.specs.declared.fault.Kind.TheVariants.{Bitmap as BitmapK}
 use Rattle.heap.specs.Meaning.{Covered}
 use Rattle.heap.specs.Checks.{checked_fill}
-use Rattle.heap.proofs.Lawful.{unchanged}
 use Rattle.heap.proofs.Checked.{fill_some, fill_covered, fill_checked}
 use Rattle.bitmap.specs.Words.{bit_in}
 use Rattle.bitmap.specs.Cells.{cells_of, bitmap_live, bitmap_means}
 use Rattle.bitmap.specs.Laws.{bitmap_lawful, covered_region}
-use Rattle.bitmap.proofs.Calls.{finds_at, bitmap_filled, keeps_filled}
+use Rattle.bitmap.proofs.Calls.{bitmap_filled, keeps_filled}
 use Rattle.bitmap.proofs.BitmapHeap.fill.Goals as goal
 
 pub returns : goal.returns
 returns c =
     let xs = c.args.self.now.region.now in
     let ys = c.paint.new.region in
-    let u = bit_in c.args.self.now.maps.used in
-    let f = bit_in c.args.self.now.maps.first in
+    let u = bit_in c.args.self.now.maps.used.words in
+    let f = bit_in c.args.self.now.maps.first.words in
     let a = c.args.a in
     let n = c.args.c in
-    let finds = finds_at xs u f c.count_cells-cells.result a c.find.result c.count_cells-cells.ensures c.find.ensures in
     let ok : checked_fill BitmapK c.find.result a n ≡ Ok tt = sym c.check_fill.ensures ∙ c.in_ok-check_fill.was in
-    let z : 0 < n = fill_some BitmapK (bitmap_means xs u f) (bitmap_lawful xs u f) a c.find.result finds n ok in
-    let k : Covered (bitmap_live u f (cells_of (length xs))) a n = fill_covered BitmapK (bitmap_means xs u f) (bitmap_lawful xs u f) a c.find.result finds n ok in
+    let z : 0 < n = fill_some BitmapK (bitmap_means xs u f) (bitmap_lawful xs u f) a c.find.result c.find.ensures n ok in
+    let k : Covered (bitmap_live u f (cells_of (length xs))) a n = fill_covered BitmapK (bitmap_means xs u f) (bitmap_lawful xs u f) a c.find.result c.find.ensures n ok in
     let p = c.paint.ensures.inside (covered_region xs u f a n z k) in
     record {
       answer = (z, ∣ k ∣₁);
       after = bitmap_filled xs ys u f a n c.args.b z k p;
-      kept = λ from h r. keeps_filled xs ys u f a n c.args.b z k p from.region.now (bit_in from.maps.used) (bit_in from.maps.first) h r;
+      kept = λ from h r. keeps_filled xs ys u f a n c.args.b z k p from.region.now (bit_in from.maps.used.words) (bit_in from.maps.first.words) h r;
     }
 
-pub returns-in_err-check_fill : goal.returns-in_err-check_fill
-returns-in_err-check_fill c =
+pub returns-in_err-check_fill-clause-answer : goal.returns-in_err-check_fill-clause-answer
+returns-in_err-check_fill-clause-answer c =
     let xs = c.args.self.now.region.now in
-    let u = bit_in c.args.self.now.maps.used in
-    let f = bit_in c.args.self.now.maps.first in
-    let finds = finds_at xs u f c.count_cells-cells.result c.args.a c.find.result c.count_cells-cells.ensures c.find.ensures in
+    let u = bit_in c.args.self.now.maps.used.words in
+    let f = bit_in c.args.self.now.maps.first.words in
     let p = err_from_is_err_and c.from_residual.result c.from_residual.ensures.1 in
-    rw (p.1, p.2) (record {
-      answer = fill_checked BitmapK (bitmap_means xs u f) (bitmap_lawful xs u f) c.args.a c.find.result finds c.args.c (Err c.in_err-check_fill.field-0.0) c.in_err-check_fill.ensures;
-      after = unchanged (bitmap_means xs u f);
-      kept = λ from h k. k;
-    })
+    rw (p.1, p.2) (fill_checked BitmapK (bitmap_means xs u f) (bitmap_lawful xs u f) c.args.a c.find.result c.find.ensures c.args.c (Err c.in_err-check_fill.field-0.0) c.in_err-check_fill.ensures)

@@ -1,6 +1,6 @@
-use Rattle.std.proofs.Common.{refl}
 use Rattle.bump.proofs.Calls.{bump_none}
+use Rattle.std.proofs.Common.{refl}
 use Rattle.bump.proofs.Bump.new.Goals as goal
 
-pub returns : goal.returns
-returns c = record { region = refl; cursor = refl; nothing = bump_none c.args.region.now 0 refl }
+pub returns-clause-nothing : goal.returns-clause-nothing
+returns-clause-nothing c = bump_none c.args.region.now 0 refl

@@ -6,17 +6,8 @@ use Rattle.player.specs.Turns.{Turned, call_of, relieved}
 use Rattle.player.proofs.Acting.{called}
 use Rattle.player.proofs.player.act.Goals as goal
 
-pub returns-in-Allocate : goal.returns-in-Allocate
-returns-in-Allocate g c = rw c.in-Allocate.is c.allocate.ensures
-
-pub returns-in-Free : goal.returns-in-Free
-returns-in-Free g c = rw c.in-Free.is c.free.ensures
-
-pub returns-in-Fill : goal.returns-in-Fill
-returns-in-Fill g c = rw c.in-Fill.is c.fill.ensures
-
 pub returns-in-Relief : goal.returns-in-Relief
 returns-in-Relief g c =
-    let t : Turned c.args.action c.args.slot Done (call_of call.Relief answer.Nothing) c.args.slot = rw c.in-Relief.is relieved in
+    let t : Turned c.args.action c.args.slot.now Done (call_of call.Relief answer.Nothing) c.args.slot.now = rw c.in-Relief.is relieved in
     let e = c.relief.ensures in
     called g.H.Meant.means g.H.Meant.keeps _ _ _ _ c.args.heap.now c.relief.new.self _ _ t (runs.eased e.after) (g.H.Meant.lawful c.relief.new.self) e.kept

@@ -1,11 +1,8 @@
-use Rattle.std.proofs.Common.{◌+◌, ◌*◌, ◌<◌, ◌≤◌, length, sym, refl, ap, ◌∙◌, arith}
+use Rattle.std.proofs.Common.{◌+◌, ◌*◌, ◌<◌, ◌≤◌, length, sym, ap, ◌∙◌, arith}
 use Rattle.trace.specs.declared.frame.Frame.{Frame}
 use Rattle.trace.specs.Frames.{frames_of}
-use Rattle.trace.proofs.Reading.{read_more, write_more, wrote_all}
+use Rattle.trace.proofs.Reading.{read_more, write_more}
 use Rattle.trace.proofs.recording.write_trace.Goals as goal
-
-pub returns-then-out-frames : goal.returns-then-out-frames
-returns-then-out-frames c = (omega arith, refl)
 
 pub loop-i-preserved : goal.loop-i-preserved
 loop-i-preserved c =
@@ -18,9 +15,3 @@ loop-i-preserved c =
       write_more fs i d c.args.out.now c.loop-i.out c.copy_from_slice.new.self lt room (c.copy_from_slice.ensures.after ∙ b.bytes) c.loop-i.invariant.0,
       read_more fs i d lt (sym (ap frames_of b.bytes) ∙ b.frames) c.loop-i.invariant.1,
     )
-
-pub returns : goal.returns
-returns c =
-    let w = wrote_all c.args.frames.now c.loop-i.i c.args.out.now c.loop-i.out c.loop-i-test.false c.loop-i.auto.i-end c.loop-i.invariant.0 c.loop-i.invariant.1 in
-    let l = c.if-out-frames.false in
-    (refl, omega arith, w.0, w.1)

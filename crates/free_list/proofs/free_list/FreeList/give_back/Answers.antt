@@ -17,7 +17,7 @@ returns-in_err-check_free g c =
     let s = c.args.self.now in
     let m = g.H.Meant.means s.below in
     let held = listed s.held in
-    let L = g.R.Rounding.largest in
+    let L = g.R.Rounding.LARGEST in
     let R = g.R.Rounding.rounds in
     let a = c.args.a in
     let p = err_from_is_err_and c.from_residual.result c.from_residual.ensures.1 in
@@ -29,19 +29,19 @@ returns-in_err-check_free g c =
       serves = λ from h k l. serves_none L R a _ (free_listed L R held m) (free_listed L R held m) g.R.Rounding.lawful t.0 (k.long a);
     })
 
-pub returns-then-len-lt-MOST : goal.returns-then-len-lt-MOST
-returns-then-len-lt-MOST g c =
+pub returns : goal.returns
+returns g c =
     let s = c.args.self.now in
     let m = g.H.Meant.means s.below in
     let held = listed s.held in
     let held' = listed c.push.new.self in
-    let L = g.R.Rounding.largest in
+    let L = g.R.Rounding.LARGEST in
     let R = g.R.Rounding.rounds in
     let a = c.args.a in
     let live : 0 < unheld held m.live a = free_checked FreeListK (free_listed L R held m) (free_listed_lawful L R held m g.R.Rounding.lawful (g.H.Meant.lawful s.below)) a c.covering.result c.covering.ensures (Ok tt) c.in_ok-check_free.ensures in
     let fresh : among a held ≡ false = some_unheld held m.live a live in
     let some : 0 < m.live a = omega (arith, unheld_le held m.live a) in
-    let few : length held < 16 = omega (arith, c.len.ensures, c.if-len-lt-MOST.true) in
+    let few : length held < 16 = grind (arith, c.is_full.ensures.full, c.is_full.ensures.most, c.if-is_full.false) in
     record {
       answer = live;
       after = held_freed L R held held' m a c.push.ensures;
@@ -49,20 +49,20 @@ returns-then-len-lt-MOST g c =
       serves = λ from h k l. serves_next L R held held' m a _ g.R.Rounding.lawful c.push.ensures (k.long a);
     }
 
-pub returns : goal.returns
-returns g c =
+pub returns-then-is_full : goal.returns-then-is_full
+returns-then-is_full g c =
     let s = c.args.self.now in
     let m = g.H.Meant.means s.below in
     let m' = g.H.Meant.means c.free.new.self in
     let held = listed s.held in
-    let L = g.R.Rounding.largest in
+    let L = g.R.Rounding.LARGEST in
     let R = g.R.Rounding.rounds in
     let a = c.args.a in
     let r = c.free.result in
     let e = c.free.ensures in
     let live : 0 < unheld held m.live a = free_checked FreeListK (free_listed L R held m) (free_listed_lawful L R held m g.R.Rounding.lawful (g.H.Meant.lawful s.below)) a c.covering.result c.covering.ensures (Ok tt) c.in_ok-check_free.ensures in
     let fresh : among a held ≡ false = some_unheld held m.live a live in
-    let full : 16 ≤ length held = omega (arith, c.len.ensures, c.if-len-lt-MOST.false) in
+    let full : 16 ≤ length held = grind (arith, c.is_full.ensures.full, c.if-is_full.true) in
     record {
       answer = rw c.make_own.ensures (own_free FreeListK m.kind (unheld held m.live) m.live a a r (unheld_not held m.live a fresh) e.answer);
       after = rw c.make_own.ensures (below_frees L R held m m' a r e.after);

@@ -1,41 +1,19 @@
-use Rattle.std.proofs.Common.{◌≡◌, ℕ, ◌+◌, ◌-◌, ◌<◌, length, get_or, take, sym, ap, ◌∙◌, arith, take_all}
-use Rattle.free_list.specs.FreeLists.{newest}
-use Rattle.free_list.specs.Newest.{newest_here, newest_before}
+use Rattle.std.proofs.Common.{rules, ℕ, sym, ◌∙◌}
+use borrow.Author.Tests.{tests}
+use Rattle.std.proofs.lemmas.Iterator.{YieldsList-from_map}
+use Rattle.std.proofs.lemmas.Iterator.Search.{find_from_yields_List}
+use Rattle.std.proofs.lemmas.Iterator.Adapters.{YieldsList-from_rev_slice, option_map_id}
 use Rattle.free_list.specs.FreeList.{listed}
+use Rattle.free_list.proofs.Reading.{long_enough, find_newest}
 use Rattle.free_list.proofs.free_list.FreeList.newest.Goals as goal
 
-pub loop-i-init : goal.loop-i-init
-loop-i-init g c =
+pub returns : goal.returns
+returns g c =
     let s = c.args.self.now in
-    let held = listed s.held in
-    (omega arith, ap (newest (g.H.Meant.means s.below).live c.args.size) (sym (take_all c.len-i.result held (omega arith))))
-
-pub get-a-requires : goal.get-a-requires
-get-a-requires g c = omega (arith, c.loop-i.invariant.0)
-
-pub returns-then-size-c : goal.returns-then-size-c
-returns-then-size-c g c =
-    let s = c.args.self.now in
-    let held = listed s.held in
     let live = (g.H.Meant.means s.below).live in
-    let i = c.loop-i.i - 1 in
-    let more : c.loop-i.i ≡ i + 1 = omega arith in
-    let less : i < length held = omega (arith, c.loop-i.invariant.0) in
-    let a = c.get-a.ensures in
-    let l : c.length_at-c.result ≡ live (get_or held i 0) = c.length_at-c.ensures ∙ ap live a in
-    let here = newest_here live c.args.size held i less (omega (arith, c.if-size-c.true)) in
-    let there = c.loop-i.invariant.1 in
-    cc (ap (λ (n : ℕ). newest live c.args.size (take n held)) more)
-
-pub loop-i-preserved : goal.loop-i-preserved
-loop-i-preserved g c =
-    let s = c.args.self.now in
     let held = listed s.held in
-    let live = (g.H.Meant.means s.below).live in
-    let i = c.loop-i.i - 1 in
-    let more : c.loop-i.i ≡ i + 1 = omega arith in
-    let less : i < length held = omega (arith, c.loop-i.invariant.0) in
-    let l : c.length_at-c.result ≡ live (get_or held i 0) = c.length_at-c.ensures ∙ ap live c.get-a.ensures in (
-      omega (arith, c.loop-i.invariant.0),
-      c.loop-i.invariant.1 ∙ ap (λ (n : ℕ). newest live c.args.size (take n held)) more ∙ newest_before live c.args.size held i less (omega (arith, c.if-size-c.false)),
-    )
+    sym (option_map_id c.find.result)
+    ∙ find_from_yields_List (long_enough c.args.size) _ _ c.find.result c.find.ensures.ran
+    (YieldsList-from_map _ (λ (a : ℕ). (a, live a)) (YieldsList-from_rev_slice held (cc)) c.map.ensures.closure (λ x r q k. search (rules, tests)))
+    (λ x b q k. search (rules, tests))
+    ∙ find_newest live c.args.size held

@@ -11,7 +11,7 @@ serve-requires g c =
     let b = c.in-Some.block in
     let k = c.in_ok-size.size in
     let v = serves (g.H.Meant.means s.below).live k (listed s.held) b (sym c.in-Some.ensures) in
-    let some : 1 ≤ k = asked_some g.R.Rounding.largest g.R.Rounding.rounds c.args.n k (sym c.in_ok-size.ensures) g.R.Rounding.lawful in
+    let some : 1 ≤ k = asked_some g.R.Rounding.LARGEST g.R.Rounding.rounds c.args.n k (sym c.in_ok-size.ensures) g.R.Rounding.lawful in
     record { some = omega (arith, v.long, v.entire); live = sym v.entire }
 
 pub returns-in-Some : goal.returns-in-Some
@@ -22,7 +22,7 @@ returns-in-Some g c =
     let m' = g.H.Meant.means s'.below in
     let held = listed s.held in
     let held' = listed s'.held in
-    let L = g.R.Rounding.largest in
+    let L = g.R.Rounding.LARGEST in
     let R = g.R.Rounding.rounds in
     let n = c.args.n in
     let b = c.in-Some.block in
@@ -47,7 +47,7 @@ returns-in-None g c =
     let m' = g.H.Meant.means s'.below in
     let held = listed s.held in
     let held' = listed s'.held in
-    let L = g.R.Rounding.largest in
+    let L = g.R.Rounding.LARGEST in
     let R = g.R.Rounding.rounds in
     let n = c.args.n in
     let k = c.in_ok-size.size in

@@ -1,7 +1,6 @@
 use Rattle.std.proofs.Common.{Err, sym}
 use Rattle.std.proofs.lemmas.Result.{err_from_is_err_and}
 use Rattle.heap.specs.declared.fault.Kind.TheVariants.{FreeList as FreeListK}
-use Rattle.heap.proofs.Lawful.{unchanged}
 use Rattle.heap.proofs.Checked.{fill_covered, fill_checked}
 use Rattle.heap.proofs.Offers.{own_fill}
 use Rattle.free_list.specs.FreeLists.{unheld, free_listed}
@@ -17,7 +16,7 @@ returns g c =
     let m = g.H.Meant.means s.below in
     let m' = g.H.Meant.means c.fill.new.self in
     let held = listed s.held in
-    let L = g.R.Rounding.largest in
+    let L = g.R.Rounding.LARGEST in
     let R = g.R.Rounding.rounds in
     let a = c.args.a in
     let n = c.args.c in
@@ -31,16 +30,12 @@ returns g c =
       kept = λ from h k. rw c.make_own.ensures (below_fill_keeps R (listed from.held) (g.H.Meant.means from.below).live held m m' (λ q. g.H.Meant.keeps from.below q s.below) (λ q. g.H.Meant.keeps from.below q c.fill.new.self) h k a n c.args.b r e.after (e.kept from.below));
     }
 
-pub returns-in_err-check_fill : goal.returns-in_err-check_fill
-returns-in_err-check_fill g c =
+pub returns-in_err-check_fill-clause-answer : goal.returns-in_err-check_fill-clause-answer
+returns-in_err-check_fill-clause-answer g c =
     let s = c.args.self.now in
     let m = g.H.Meant.means s.below in
     let held = listed s.held in
-    let L = g.R.Rounding.largest in
+    let L = g.R.Rounding.LARGEST in
     let R = g.R.Rounding.rounds in
     let p = err_from_is_err_and c.from_residual.result c.from_residual.ensures.1 in
-    rw (p.1, p.2) (record {
-      answer = fill_checked FreeListK (free_listed L R held m) (free_listed_lawful L R held m g.R.Rounding.lawful (g.H.Meant.lawful s.below)) c.args.a c.covering.result c.covering.ensures c.args.c (Err c.in_err-check_fill.field-0.0) c.in_err-check_fill.ensures;
-      after = unchanged (free_listed L R held m);
-      kept = λ from h k. k;
-    })
+    rw (p.1, p.2) ((fill_checked FreeListK (free_listed L R held m) (free_listed_lawful L R held m g.R.Rounding.lawful (g.H.Meant.lawful s.below)) c.args.a c.covering.result c.covering.ensures c.args.c (Err c.in_err-check_fill.field-0.0) c.in_err-check_fill.ensures))

@@ -2,7 +2,6 @@ use Rattle.std.proofs.Common.{◌≡◌, ◌<◌, Ok, Err, sym, ◌∙◌}
 use Rattle.heap.specs.declared.fault.Kind.TheVariants.{Affix as AffixK}
 use Rattle.heap.specs.Meaning.{Covered}
 use Rattle.heap.specs.Checks.{checked_fill}
-use Rattle.heap.proofs.Lawful.{unchanged}
 use Rattle.heap.proofs.Checked.{fill_some, fill_covered, fill_checked}
 use Rattle.heap.proofs.Offers.{own_fill, own_after_fill}
 use Rattle.layers.specs.Affixes.{affix_live, affixed}
@@ -32,14 +31,10 @@ returns g c =
       });
     }
 
-pub returns-in_err-check_fill : goal.returns-in_err-check_fill
-returns-in_err-check_fill g c =
+pub returns-in_err-check_fill-clause-answer : goal.returns-in_err-check_fill-clause-answer
+returns-in_err-check_fill-clause-answer g c =
     let s = c.args.self.now.below in
     let m = g.H.Meant.means s in
     let p = err_from_is_err_and c.from_residual.result c.from_residual.ensures.1 in
     let f = c.in_err-check_fill.field-0.0 in
-    rw (p.1, p.2) (record {
-      answer = fill_checked AffixK (affixed m) (affixed_lawful m (g.H.Meant.lawful s)) c.args.a c.inner.result c.inner.ensures c.args.c (Err f) (sym c.in_err-check_fill.was ∙ c.check_fill.ensures);
-      after = unchanged (affixed m);
-      kept = λ from h k. k;
-    })
+    rw (p.1, p.2) ((fill_checked AffixK (affixed m) (affixed_lawful m (g.H.Meant.lawful s)) c.args.a c.inner.result c.inner.ensures c.args.c (Err f) (sym c.in_err-check_fill.was ∙ c.check_fill.ensures)))

@@ -1,6 +1,5 @@
 use Rattle.std.proofs.Common.{◌<◌, Ok, Err, sym, ◌∙◌}
 use Rattle.heap.specs.declared.fault.Kind.TheVariants.{Affix as AffixK}
-use Rattle.heap.proofs.Lawful.{unchanged}
 use Rattle.heap.proofs.Checked.{free_checked}
 use Rattle.heap.proofs.Offers.{own_after_free}
 use Rattle.layers.specs.Affixes.{affix_live, affixed}
@@ -8,8 +7,8 @@ use Rattle.layers.specs.Affixed.{affixed_lawful, affixed_frees, whole_frees, sen
 use Rattle.std.proofs.lemmas.Result.{err_from_is_err_and}
 use Rattle.layers.proofs.affix.AffixHeap.free.Goals as goal
 
-pub returns : goal.returns
-returns g c =
+pub returns-clause-kept : goal.returns-clause-kept
+returns-clause-kept g c =
     let s = c.args.self.now.below in
     let m = g.H.Meant.means s in
     let a = c.args.a in
@@ -17,23 +16,15 @@ returns g c =
     let r = c.free.result in
     let h : 0 < affix_live m.live a = free_checked AffixK (affixed m) (affixed_lawful m (g.H.Meant.lawful s)) a c.inner.result c.inner.ensures (Ok tt) (sym c.in_ok-check_free.was ∙ c.check_free.ensures) in
     let both = affixed_frees m.kind m _ a r h e.answer e.after in
-    record {
-      answer = rw c.make_own.ensures both.0;
-      after = rw c.make_own.ensures both.1;
-      kept = λ from q k. rw (c.make_own.ensures, own_after_free) (record {
-        whole = λ z. whole_frees m.kind m _ a r h e.after (k.whole z);
-        below = rw sent_free (e.kept from.below _ k.below);
-      });
-    }
+    λ from q k. rw (c.make_own.ensures, own_after_free) (record {
+      whole = λ z. whole_frees m.kind m _ a r h e.after (k.whole z);
+      below = rw sent_free (e.kept from.below _ k.below);
+    })
 
-pub returns-in_err-check_free : goal.returns-in_err-check_free
-returns-in_err-check_free g c =
+pub returns-in_err-check_free-clause-answer : goal.returns-in_err-check_free-clause-answer
+returns-in_err-check_free-clause-answer g c =
     let s = c.args.self.now.below in
     let m = g.H.Meant.means s in
     let p = err_from_is_err_and c.from_residual.result c.from_residual.ensures.1 in
     let f = c.in_err-check_free.field-0.0 in
-    rw (p.1, p.2) (record {
-      answer = free_checked AffixK (affixed m) (affixed_lawful m (g.H.Meant.lawful s)) c.args.a c.inner.result c.inner.ensures (Err f) (sym c.in_err-check_free.was ∙ c.check_free.ensures);
-      after = unchanged (affixed m);
-      kept = λ from h k. k;
-    })
+    rw (p.1, p.2) ((free_checked AffixK (affixed m) (affixed_lawful m (g.H.Meant.lawful s)) c.args.a c.inner.result c.inner.ensures (Err f) (sym c.in_err-check_free.was ∙ c.check_free.ensures)))

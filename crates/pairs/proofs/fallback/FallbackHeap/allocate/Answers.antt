@@ -1,23 +1,13 @@
-use Rattle.std.proofs.Common.{Result, sym, ap, ◌∙◌}
-use Rattle.heap.specs.declared.fault.Fault.{Fault}
+use Rattle.std.proofs.Common.{sym, ◌∙◌}
 use Rattle.heap.specs.declared.fault.Kind.TheVariants.{Fallback as FallbackK}
-use Rattle.heap.specs.Meaning.{Block}
-use Rattle.pairs.specs.Pairs.{by_refusal, second_offer, fallen_back}
-use Rattle.pairs.proofs.Calling.{chosen, then_allocates, second_answer}
+use Rattle.pairs.specs.Pairs.{by_refusal, fallen_back}
+use Rattle.pairs.proofs.Calling.{then_allocates, second_answer}
 use Rattle.pairs.proofs.fallback.FallbackHeap.allocate.Goals as goal
 
-pub returns-in-Ok : goal.returns-in-Ok
-returns-in-Ok g c =
-    let s = c.args.self.now in
-    let m₁ = g.A.Meant.means s.pair.first in
-    let m₂ = g.B.Meant.means s.pair.second in
-    let n = c.args.n in
+pub returns-in-Ok-clause-after : goal.returns-in-Ok-clause-after
+returns-in-Ok-clause-after g c =
     let e = c.in-Ok.ensures in
-    record {
-      answer = ap (λ (z : Result Block Fault). by_refusal n z (second_offer FallbackK m₁ m₂ n)) e.answer ∙ sym (chosen FallbackK by_refusal m₁ m₂ n _ (sym c.admit.ensures ∙ c.in_ok-admit.was));
-      after = e.after FallbackK by_refusal;
-      kept = λ from h k. e.kept from.pair h k;
-    }
+    e.after FallbackK by_refusal
 
 pub returns-in-Err : goal.returns-in-Err
 returns-in-Err g c =

@@ -1,5 +1,5 @@
 use Rattle.pairs.specs.Pairs.{by_refusal}
 use Rattle.pairs.proofs.fallback.FallbackHeap.fill.Goals as goal
 
-pub returns : goal.returns
-returns g c = record { answer = c.fill.ensures.answer; after = c.fill.ensures.after by_refusal; kept = λ from h k. c.fill.ensures.kept from.pair h k }
+pub returns-clause-after : goal.returns-clause-after
+returns-clause-after g c = c.fill.ensures.after by_refusal

@@ -1,5 +1,5 @@
 use Rattle.pairs.specs.Pairs.{by_refusal}
 use Rattle.pairs.proofs.fallback.FallbackHeap.free.Goals as goal
 
-pub returns : goal.returns
-returns g c = record { answer = c.free.ensures.answer; after = c.free.ensures.after by_refusal; kept = λ from h k. c.free.ensures.kept from.pair h k }
+pub returns-clause-after : goal.returns-clause-after
+returns-clause-after g c = c.free.ensures.after by_refusal

@@ -1,5 +1,5 @@
 use Rattle.pairs.specs.Pairs.{by_size}
 use Rattle.pairs.proofs.segregator.SegregatorHeap.fill.Goals as goal
 
-pub returns : goal.returns
-returns g c = record { answer = c.fill.ensures.answer; after = c.fill.ensures.after (by_size c.args.self.now.threshold); kept = λ from h k. record { threshold = k.threshold; pair = c.fill.ensures.kept from.pair h k.pair } }
+pub returns-clause-after : goal.returns-clause-after
+returns-clause-after g c = c.fill.ensures.after (by_size c.args.self.now.threshold)

@@ -1,5 +1,6 @@
 use Rattle.std.proofs.Common.{◌≡◌, ℕ, ◌<◌, List, [], ◌∷◌, ◌++◌, get_or, set, sym, ap, ◌∙◌, subst, arith}
 use Rattle.trace.specs.Frames.{id_of}
+use Rattle.report.specs.declared.tally.Outcome.{Outcome}
 use Rattle.player.specs.declared.slots.Slot.{Slot}
 use Rattle.player.specs.declared.slots.Slot.TheVariants.{Empty}
 use Rattle.player.specs.Replays.{Acted, Going}
@@ -10,9 +11,9 @@ pub returns : goal.returns
 returns g c = λ start xs os few k.
     let ss = c.args.self.now.slots.table in
     let x = c.args.action in
-    let r = c.act-outcome.result in
+    let r : Outcome × Slot = (c.act-outcome.result, c.act-outcome.new.slot) in
     let i : c.id-id.result ≡ id_of x = c.id-id.ensures in
-    let slot : c.at.result ≡ get_or ss (id_of x) Empty = c.at.ensures ∙ ap (λ (z : ℕ). get_or ss z Empty) i in
+    let slot : c.at-slot.result ≡ get_or ss (id_of x) Empty = c.at-slot.ensures ∙ ap (λ (z : ℕ). get_or ss z Empty) i in
     let acted : Acted g.H.Meant.means g.H.Meant.keeps x (get_or ss (id_of x) Empty) c.args.heap.now c.act-outcome.new.heap r = subst (λ (z : Slot). Acted g.H.Meant.means g.H.Meant.keeps x z c.args.heap.now c.act-outcome.new.heap r) slot c.act-outcome.ensures in
     let small : id_of x < 256 = let b = c.id-id.type_inv in omega arith in
     let put : c.put.new.self.table ≡ set ss (id_of x) r.1 = c.put.ensures ∙ ap (λ (z : ℕ). set ss z r.1) i in (
