@@ -7,12 +7,20 @@ use Rattle.heap.specs.Faults.{raised, and_then}
 use Rattle.heap.specs.Checks.{admitted}
 use Rattle.heap.specs.Meaning.{Meaning, Block, In, Covered}
 use Rattle.heap.specs.Histories.{History, granted, freed, filled, relieved, length_at}
-use Rattle.bitmap.specs.Words.{inside}
+use Rattle.bitmap.specs.declared.maps.Maps.{Maps}
+use Rattle.bitmap.specs.Words.{bit_in, inside}
 
 -- The maps: which cells are used, and which begin a block.
 
 abbrev pub Map : Type 0
 Map = ℕ → Bool
+
+-- which cells are used, and which begin a block
+abbrev pub used_in : Maps → Map
+used_in m = bit_in m.used.words
+
+abbrev pub first_in : Maps → Map
+first_in m = bit_in m.first.words
 
 -- how many cells a region of n bytes has
 abbrev pub cells_of : ℕ → ℕ

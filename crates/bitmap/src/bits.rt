@@ -18,7 +18,7 @@ impl Bits {
             .is_some_and(|w| (w >> (i % 64)) % 2 == 1)
     }
 
-    // Sets the bit of cell `i` to `b`. Past the last cell nothing is set, so a total `put` would be no plainer: `Put` would stand under what is required here.
+    // Sets the bit of cell `i` to `b`. Past the last cell there is none to set: a total form would be no plainer, since what it promises would stand under the same premise.
     pub(crate) fn put(&mut self, i: u32, b: bool)
         requires { i < 1024 }
         ensures { Put i 1 b self.old.words self.new.words }
@@ -28,7 +28,7 @@ impl Bits {
         }
     }
 
-    // Sets the bits of the `count` cells from `i` on to `b`.
+    // Sets the bits of the `count` cells from `i` on to `b`; there have to be such cells, as for `put`.
     pub(crate) fn put_run(&mut self, i: u32, count: u32, b: bool)
         requires { i + count ≤ 1024 }
         ensures { Put i count b self.old.words self.new.words }

@@ -3,8 +3,7 @@
 
 ghost use Rattle.std.specs.Prelude.{◌≡◌, ℕ, false, length};
 ghost use Rattle.heap.specs.Meaning.{NothingLive};
-ghost use Rattle.bitmap.specs.Words.{bit_in};
-ghost use Rattle.bitmap.specs.Cells.{cells_of, bitmap_means, BitmapKeeps};
+ghost use Rattle.bitmap.specs.Cells.{used_in, first_in, cells_of, bitmap_means, BitmapKeeps};
 ghost use Rattle.bitmap.specs.Laws.{bitmap_lawful};
 ghost use Rattle.bitmap.specs.Keeping.{bitmap_begins};
 
@@ -15,7 +14,7 @@ use crate::maps::Maps;
 use heap::checks::{admit, begun_at, check_fill, check_free, check_get};
 use heap::fault::{Cause, Fault, Kind};
 use heap::interface::{Heap, LARGEST_SIZE, Meant};
-use region::paint;
+use region::{paint, used_span};
 
 // The length of a cell in bytes.
 const CELL: u32 = 64;
@@ -30,9 +29,9 @@ pub struct Bitmap<'r> {
 impl<'r> Bitmap<'r> {
     pub fn new(region: &'r mut [u8]) -> Bitmap<'r>
         ensures region { result.region.now ≡ region.old }
-        ensures used { (x : ℕ) → bit_in result.maps.used.words x ≡ false }
-        ensures first { (x : ℕ) → bit_in result.maps.first.words x ≡ false }
-        ensures nothing { NothingLive (bitmap_means result.region.now (bit_in result.maps.used.words) (bit_in result.maps.first.words)) }
+        ensures used { (x : ℕ) → used_in result.maps x ≡ false }
+        ensures first { (x : ℕ) → first_in result.maps x ≡ false }
+        ensures nothing { NothingLive (bitmap_means result.region.now (used_in result.maps) (first_in result.maps)) }
     {
         let maps = Maps::default();
         Bitmap { region, maps }
@@ -42,18 +41,18 @@ impl<'r> Bitmap<'r> {
     fn cells(&self) -> u32
         ensures { result ≡ cells_of (length self.now.region.now) }
     {
-        self.region.len().min(65536) as u32 / CELL
+        used_span(self.region) / CELL
     }
 }
 
 impl<'r> Meant for Bitmap<'r> {
-    ghost means = { λ s. bitmap_means s.region.now (bit_in s.maps.used.words) (bit_in s.maps.first.words) };
+    ghost means = { λ s. bitmap_means s.region.now (used_in s.maps) (first_in s.maps) };
 
-    ghost keeps = { λ from h s. BitmapKeeps from.region.now (bit_in from.maps.used.words) (bit_in from.maps.first.words) h s.region.now (bit_in s.maps.used.words) (bit_in s.maps.first.words) };
+    ghost keeps = { λ from h s. BitmapKeeps from.region.now (used_in from.maps) (first_in from.maps) h s.region.now (used_in s.maps) (first_in s.maps) };
 
-    ghost lawful = { λ s. bitmap_lawful s.region.now (bit_in s.maps.used.words) (bit_in s.maps.first.words) };
+    ghost lawful = { λ s. bitmap_lawful s.region.now (used_in s.maps) (first_in s.maps) };
 
-    ghost begins = { λ s. bitmap_begins s.region.now (bit_in s.maps.used.words) (bit_in s.maps.first.words) };
+    ghost begins = { λ s. bitmap_begins s.region.now (used_in s.maps) (first_in s.maps) };
 }
 
 impl<'r> Heap for Bitmap<'r> {

@@ -1,11 +1,10 @@
 // The two maps of a bitmap heap: which cells are used, and which begin a block.
 ghost use Rattle.std.specs.Prelude.{◌≡◌, ◌+◌, ◌<◌, ◌≤◌, not, ◌&&◌};
-ghost use Rattle.bitmap.specs.Words.{bit_in};
-ghost use Rattle.bitmap.specs.Cells.{goes_on, Runs, Back, LowestRun, Marked, Unmarked};
+ghost use Rattle.bitmap.specs.Cells.{used_in, first_in, goes_on, Runs, Back, LowestRun, Marked, Unmarked};
 
 use crate::bits::Bits;
 
-// A block is a cell that is used and first, with the cells behind it that are used and not first.
+// Two maps, as the rules of a bitmap heap have them. A block is a cell that is used and first, with the cells behind it that are used and not first.
 #[derive(Default, Drop)]
 pub(crate) struct Maps {
     used: Bits,
@@ -15,21 +14,21 @@ pub(crate) struct Maps {
 impl Maps {
     // Whether a block begins at cell `i`.
     pub(crate) fn begins(&self, i: u32) -> bool
-        ensures { result ≡ (bit_in self.now.used.words i && bit_in self.now.first.words i) }
+        ensures { result ≡ (used_in self.now i && first_in self.now i) }
     {
         self.used.has(i) && self.first.has(i)
     }
 
     // Whether cell `i` goes on with the block before it.
     fn continues(&self, i: u32) -> bool
-        ensures { result ≡ (bit_in self.now.used.words i && not (bit_in self.now.first.words i)) }
+        ensures { result ≡ (used_in self.now i && not (first_in self.now i)) }
     {
         self.used.has(i) && !self.first.has(i)
     }
 
     // The cell where a block that has cell `i` would begin.
     pub(crate) fn back(&self, i: u32) -> u32
-        ensures { Back (λ x. bit_in self.now.used.words x && not (bit_in self.now.first.words x)) i result }
+        ensures { Back (λ x. used_in self.now x && not (first_in self.now x)) i result }
     {
         (1..=i)
             .rev()
@@ -40,7 +39,7 @@ impl Maps {
     // The first cell from `i` on, of so many, that does not go on with the block before it.
     pub(crate) fn ahead(&self, cells: u32, i: u32) -> u32
         requires { i ≤ cells }
-        ensures runs { Runs (goes_on (bit_in self.now.used.words) (bit_in self.now.first.words) cells) i result }
+        ensures runs { Runs (goes_on (used_in self.now) (first_in self.now) cells) i result }
         ensures below { result ≤ cells }
     {
         (i..cells)
@@ -48,10 +47,10 @@ impl Maps {
             .unwrap_or(cells)
     }
 
-    // The lowest cell, of so many, from which `wanted` free ones can make a block; each cell is looked at once.
+    // The lowest cell, of so many, from which `wanted` free ones can make a block, in one pass.
     pub(crate) fn lowest_run(&self, cells: u32, wanted: u32) -> Option<u32>
         requires { 0 < wanted }
-        ensures { LowestRun (bit_in self.now.used.words) (bit_in self.now.first.words) cells wanted result }
+        ensures { LowestRun (used_in self.now) (first_in self.now) cells wanted result }
     {
         // the cells from here to the one that is looked at are free
         let mut start = 0;
@@ -66,20 +65,20 @@ impl Maps {
         None
     }
 
-    // Makes a block of the `count` cells from `i` on.
+    // Makes a block of the `count` cells from `i` on; there have to be such cells, as for `Bits::put`.
     pub(crate) fn mark(&mut self, i: u32, count: u32)
         requires { (i + count ≤ 1024) × (0 < count) }
-        ensures { Marked i count (bit_in self.old.used.words) (bit_in self.old.first.words) (bit_in self.new.used.words) (bit_in self.new.first.words) }
+        ensures { Marked i count (used_in self.old) (first_in self.old) (used_in self.new) (first_in self.new) }
     {
         self.used.put_run(i, count, true);
         self.first.put_run(i, count, false);
         self.first.put(i, true);
     }
 
-    // Frees the `count` cells from `start` on.
+    // Frees the `count` cells from `start` on; there have to be such cells, as for `Bits::put`.
     pub(crate) fn unmark(&mut self, start: u32, count: u32)
         requires { start + count ≤ 1024 }
-        ensures { Unmarked start count (bit_in self.old.used.words) (bit_in self.old.first.words) (bit_in self.new.used.words) (bit_in self.new.first.words) }
+        ensures { Unmarked start count (used_in self.old) (first_in self.old) (used_in self.new) (first_in self.new) }
     {
         self.used.put_run(start, count, false);
         self.first.put_run(start, count, false);

@@ -60,7 +60,7 @@ impl Chunk {
         self.state == State::Free && size <= length
     }
 
-    // Its length if it is free; else 0.
+    // Its length if it is free; else 0, since it is added.
     pub(crate) fn free_length(self) -> u32
         ensures { result ≡ free_part (seen self) }
     {

@@ -13,7 +13,7 @@ pub(crate) enum State {
 }
 
 impl State {
-    // The state that a tag's number stands for, if it does for one. No TryFrom: nothing would read its error.
+    // The state that a tag's number stands for, if it does for one. No TryFrom: nothing would read its error. A header of a bump heap has other states.
     pub(crate) fn of(number: u32) -> Option<State>
         ensures { result ≡ state_of number }
     {

@@ -13,7 +13,7 @@ pub(crate) enum State {
 impl State {
     ghost use Rattle.bump.specs.Headers.{Numbers};
 
-    // The state that a number stands for, if it does for one. No TryFrom: nothing would read its error.
+    // The state that a number stands for, if it does for one. No TryFrom: nothing would read its error. A boundary tag has other states.
     fn of(number: u32) -> Option<State>
         ensures { Numbers number result }
     {

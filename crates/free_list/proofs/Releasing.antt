@@ -1,9 +1,9 @@
 -- Held blocks freed below in turn.
-use Rattle.std.proofs.Common.{◌≡◌, ℕ, ◌<◌, ◌≤◌, cond, eqb, List, [], ◌∷◌, ◌++◌, Ok, Err, Result, sym, refl, ap, ◌∙◌, subst, arith}
+use Rattle.std.proofs.Common.{◌≡◌, ℕ, ◌<◌, ◌≤◌, cond, eqb, List, [], ◌∷◌, ◌++◌, Ok, Err, Result, refl, ◌∙◌, subst, arith}
 use Rattle.heap.specs.declared.fault.Fault.{Fault}
-use Rattle.heap.specs.Meaning.{Meaning, In, Stays, MayFree, Frees}
+use Rattle.heap.specs.Meaning.{Meaning, In, MayFree, Frees}
 use Rattle.heap.specs.Histories.{History, freed, after_free}
-use Rattle.free_list.specs.FreeLists.{unheld, free_listed, freed_in_turn, Released}
+use Rattle.free_list.specs.FreeLists.{freed_in_turn, Released}
 use Rattle.free_list.specs.Addresses.{among_push}
 use Rattle.free_list.specs.Unheld.{wider}
 
@@ -33,13 +33,3 @@ surely_freed K a m (Err f) h p o k = absurd (let z = o.0 in let w : ⊥ = omega 
 pub in_turn_push : (xs : List ℕ) (a : ℕ) (h : History) → freed_in_turn (xs ++ (a ∷ [])) h ≡ freed a ∷ freed_in_turn xs h
 in_turn_push [] a h = refl
 in_turn_push (x ∷ xs) a h = in_turn_push xs a (freed x ∷ h)
-
-pub relieved_stays : (L : ℕ) (R : ℕ → ℕ) (held held' : List ℕ) (m m' m'' : Meaning) → held' ≡ [] → Released held m m' → Stays m' m'' → Stays (free_listed L R held m) (free_listed L R held' m'')
-relieved_stays L R held held' m m' m'' eh p s = record {
-  kind = refl;
-  span = s.span ∙ p.span;
-  live = λ a. ap (λ (q : List ℕ). unheld q m''.live a) eh ∙ s.live a ∙ p.live a;
-  byte = λ a x i.
-      let j : In a (m'.live a) x = subst (λ (c : ℕ). In a c x) (sym (p.live a)) i in
-      s.byte a x j ∙ p.byte a x j;
-}

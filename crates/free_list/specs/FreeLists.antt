@@ -3,14 +3,14 @@ use Rattle.std.specs.Prelude.{◌≡◌, ℕ, ◌<◌, ◌≤◌, true, cond, Li
 use Rattle.heap.specs.declared.fault.Fault.{Fault}
 use Rattle.heap.specs.declared.fault.Kind.TheVariants.{FreeList as FreeListK}
 use Rattle.heap.specs.Faults.{up, and_then}
-use Rattle.heap.specs.Checks.{admitted}
+use Rattle.heap.specs.Checks.{admitted, rounded_size}
 use Rattle.heap.specs.Meaning.{Meaning, Block, In, MayFree, Allocates, Frees}
 use Rattle.heap.specs.Histories.{History, granted, freed, filled, relieved, size_at}
 use Rattle.free_list.specs.Holdings.{among, without, with_newest}
 
 -- the size to ask for below
 abbrev pub asked : ℕ → (ℕ → ℕ) → ℕ → Result ℕ Fault
-asked largest rounds n = and_then (admitted largest FreeListK n) (λ q. Ok (rounds q))
+asked largest rounds n = rounded_size largest rounds FreeListK n
 
 -- the first block where there is one, else the second
 abbrev pub or_else : Option Block → Option Block → Option Block

@@ -6,6 +6,8 @@ use Rattle.heap.specs.declared.fault.Cause.TheVariants.{Outside}
 use Rattle.heap.specs.Faults.{raised}
 use Rattle.heap.specs.Meaning.{Meaning, Block, Lawful, Covered, Finds, MayFree, MayFill}
 use Rattle.heap.specs.Checks.{begun, reached, checked_get, checked_free, checked_fill}
+use Rattle.std.specs.Result.{IsErrAnd}
+use Rattle.std.proofs.lemmas.Result.{err_from_is_err_and}
 use Rattle.heap.proofs.Lawful.{same_start, none_at, none_within}
 use Rattle.std.proofs.lemmas.Bool.{cond-true, cond-false, eq-eqb, ne_eqb, leb-true, leb-false, cases_eq}
 
@@ -52,6 +54,10 @@ module _ (k : Kind) (m : Meaning) (w : Lawful m) (a : ℕ) (found : Option Block
   free_checked (Ok t) e = let l = begun_is m w a found f in grind arith
   free_checked (Err g) e = let l = begun_is m w a found f in (grind arith, grind arith)
 
+  -- the same of the fault that `?` hands on
+  pub free_refused : (e : Fault) (r : Result (Unit {0}) Fault) → Err e ≡ checked_free k found a → IsErrAnd r (λ y. y ≡ e) → MayFree k m.live a r
+  free_refused e r t i = let p = err_from_is_err_and r i in rw (p.1, p.2) (free_checked (Err e) t)
+
   pub fill_some : (c : ℕ) → checked_fill k found a c ≡ Ok tt → 0 < c
   fill_some c e = grind arith
 
@@ -65,3 +71,6 @@ module _ (k : Kind) (m : Meaning) (w : Lawful m) (a : ℕ) (found : Option Block
       (λ (q : c ≡ 0). inl (q, grind arith))
       (λ (q : c ≡ 0 → ⊥). let some : 0 < c = omega arith in inr (some, (λ i. reached_no m w a c found some f (grind arith) i), grind arith))
       (cases_eq c 0)
+
+  pub fill_refused : (c : ℕ) (e : Fault) (r : Result (Unit {0}) Fault) → Err e ≡ checked_fill k found a c → IsErrAnd r (λ y. y ≡ e) → MayFill k m.live a c r
+  fill_refused c e r t i = let p = err_from_is_err_and r i in rw (p.1, p.2) (fill_checked c (Err e) t)

@@ -62,8 +62,8 @@ impl fmt::Display for Answer {
     }
 }
 
-// A call, and the place for its answer.
-#[derive(Clone, Copy)]
+// A call, and the place for its answer. Before the call nothing stands there, which is also all that relief answers: no Option beside `Nothing`.
+#[derive(Clone, Copy, PartialEq, Eq, Debug)]
 pub struct Step {
     pub call: Call,
     pub answer: Answer,

@@ -1,4 +1,4 @@
-// The tests that a heap makes of a call before it acts, and the faults that they raise.
+// The tests that a heap makes of a call before it acts, and the faults that they raise. What find told and the address travel together through these alone: a struct of both would be made at each call and taken apart.
 ghost use Rattle.std.specs.Prelude.{◌≡◌};
 ghost use Rattle.heap.specs.Checks.{admitted, begun, reached, checked_get, checked_free, checked_fill};
 
@@ -17,7 +17,7 @@ pub fn admit(n: u32, largest: u32, kind: Kind) -> Result<u32, Fault>
     Ok(n)
 }
 
-// The length of the block that find told for `a`, if it begins there; else 0, which no block has: callers compare, divide and add it as it is, and an Option would be taken apart at each.
+// The length of the block that find told for `a`, if it begins there; else 0, which no block has. Callers compare it or divide it as it is, and an Option would be taken apart at each.
 pub fn begun_at(found: Option<(u32, u32)>, a: u32) -> u32
     ensures { result ≡ begun found a }
 {

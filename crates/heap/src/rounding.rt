@@ -18,14 +18,14 @@ pub trait Rounding {
 
     ghost lawful: { LawfulRounding LARGEST rounds };
 
-    // LARGEST, as a function.
+    // LARGEST, as a function for those who hold a rounding by its calls.
     fn limit() -> u32
         ensures { result ≡ LARGEST }
     {
         Self::LARGEST
     }
 
-    // The size that stands for `n`; 0 where `n` is 0 or above the largest.
+    // The size that stands for `n`; 0 where `n` is 0 or above the largest, as the rules of a rounding say it.
     fn round(n: u32) -> u32
         ensures { result ≡ rounds n };
 }

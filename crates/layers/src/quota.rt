@@ -99,6 +99,7 @@ impl<H: Heap> Heap for Quota<H> {
         self.offered(n)
     }
 
+    // The heap below under this kind, as in the rounding layer: Rust has no delegation.
     fn find(&self, a: u32) -> Option<(u32, u32)> {
         self.below.find(a)
     }

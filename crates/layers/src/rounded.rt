@@ -42,6 +42,7 @@ impl<H: Heap, R: Rounding> Heap for Rounded<H, R> {
         hand_up(self.below.offer(size))
     }
 
+    // The rest is the heap below under this kind: Rust has no delegation, and no method that is one for `&self` and `&mut self`, as offer and allocate are.
     fn find(&self, a: u32) -> Option<(u32, u32)> {
         self.below.find(a)
     }

@@ -1,5 +1,5 @@
 -- A pair's calls from those of its heaps.
-use Rattle.std.proofs.Common.{◌≡◌, ℕ, ◌+◌, ◌-◌, ◌<◌, ◌≤◌, Bool, true, false, cond, eqb, Ok, Err, Result, sym, refl, ap, ◌∙◌, subst, arith}
+use Rattle.std.proofs.Common.{◌≡◌, ℕ, ◌+◌, ◌<◌, ◌≤◌, Bool, true, false, cond, eqb, Ok, Err, Result, sym, refl, ap, ◌∙◌, subst, arith}
 use mathlib.Core.Logic.{∥∥₁_elim}
 use Rattle.heap.specs.declared.fault.Fault.{Fault}
 use Rattle.heap.specs.declared.fault.Kind.{Kind}
@@ -10,7 +10,7 @@ use Rattle.heap.specs.Meaning.{Meaning, Block, Lawful, In, Same, SameOffers, May
 use Rattle.heap.proofs.Lawful.{offered_below}
 use Rattle.heap.proofs.Offers.{and_then_same, admitted_same, up_ok}
 use Rattle.pairs.specs.Pairs.{both_fit, pair_span, pair_byte, checked_open, first_offer, second_offer, Choice, by_refusal, pair_offer, paired}
-use Rattle.pairs.specs.Shares.{low, high, side_same, set_low, frame}
+use Rattle.pairs.specs.Shares.{low, side_same, set_low, frame}
 use Rattle.pairs.specs.Paired.{bounded}
 use Rattle.std.proofs.lemmas.Bool.{leb-true}
 use native.Mathlib.Nat.{ℕ_set}
@@ -91,38 +91,6 @@ module _ (k : Kind) (choose : Choice) (m₁ m₁' m₂ : Meaning) (w : Lawful m�
         offers = same_offers k choose m₁ m₁' m₂ m₂ es refl s.offers (λ n. refl);
       }
   filled_first k' a c v (Err f) q s = same_first s
-
-module _ (k : Kind) (choose : Choice) (m₁ m₂ m₂' : Meaning) (w : Lawful m₁) where
-  same_second : Same m₂ m₂' → Same (paired k choose m₁ m₂) (paired k choose m₁ m₂')
-  same_second s =
-      let et = s.0.span in
-      let eo = same_fit k choose m₁ m₁ m₂ m₂' refl et in (
-        record {
-          kind = refl;
-          span = same_span k choose m₁ m₁ m₂ m₂' refl et;
-          live = side_same m₁.span m₁.span _ _ refl eo m₁.live m₁.live m₂.live m₂'.live (λ x. refl) s.0.live;
-          byte = λ a x i. frame m₁.span m₁.span _ _ (λ _. Unit {0}) m₁.live m₂.live m₁.byte m₁.byte m₂.byte m₂'.byte refl eo (bounded m₁ w) (λ b y j _. refl) (λ b y j _. s.0.byte b y j) a x i tt;
-        },
-        same_offers k choose m₁ m₁ m₂ m₂' refl et (λ n. refl) s.1,
-      )
-
-  pub filled_second : (a c v : ℕ) (r : Result (Unit {0}) Fault) → m₁.span ≤ a → both_fit m₁.span m₂.span ≡ true → Fills (a - m₁.span) c v m₂ m₂' r → Fills a c v (paired k choose m₁ m₂) (paired k choose m₁ m₂') (own k a r)
-  filled_second a c v (Ok t) l p s =
-      let et = s.span in
-      let eo = same_fit k choose m₁ m₁ m₂ m₂' refl et in
-      record {
-        kind = refl;
-        span = same_span k choose m₁ m₁ m₂ m₂' refl et;
-        live = side_same m₁.span m₁.span _ _ refl eo m₁.live m₁.live m₂.live m₂'.live (λ x. refl) s.live;
-        set = λ x i.
-            let lo = i.from in
-            let hi = i.below in
-            high m₁.span _ m₁.byte m₂'.byte x (omega arith) (eo ∙ p) ∙ s.set (x - m₁.span) (record { from = omega arith; below = omega arith });
-        byte = frame m₁.span m₁.span _ _ (λ x. In a c x → ⊥) m₁.live m₂.live m₁.byte m₁.byte m₂.byte m₂'.byte refl eo (bounded m₁ w) (λ b y j _. refl)
-            (λ b y j out. s.byte b y j (λ i. let lo = i.from in let hi = i.below in out (record { from = omega arith; below = omega arith })));
-        offers = same_offers k choose m₁ m₁ m₂ m₂' refl et (λ n. refl) s.offers;
-      }
-  filled_second a c v (Err f) l p s = same_second s
 
 -- an allocate after a call that changed nothing
 pub then_allocates : (m m' m'' : Meaning) (r : Result Block Fault) → Same m m' → Allocates m' m'' r → Allocates m m'' r

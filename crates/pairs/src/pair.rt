@@ -26,7 +26,7 @@ pub struct Pair<A, B> {
     second: B,
 }
 
-// The calls take the kind of the heap that makes them, which raises the faults; `after` holds however that heap chooses between the two.
+// The calls take the kind of the heap that makes them, which raises the faults, and no field has it, since a pair is made without; `after` holds however that heap chooses between the two.
 impl<A: Heap, B: Heap> Pair<A, B> {
     pub fn new(first: A, second: B) -> Pair<A, B>
         ensures first { result.first ≡ first }
@@ -100,12 +100,13 @@ impl<A: Heap, B: Heap> Pair<A, B> {
             Share::First => self.first.find(a),
             Share::Second(inner) => {
                 let (start, length) = self.second.find(inner)?;
-                Some((self.first.span() + start, length))
+                Some((a - inner + start, length))
             }
             Share::Neither => None,
         }
     }
 
+    // Get, free and fill are alike but for the call below, by `&self` or by `&mut self`, and for the refusal.
     pub fn get(&self, a: u32, kind: Kind) -> Result<u8, Fault>
         ensures { Gets kind (pair_live (A.Meant.means self.now.first) (B.Meant.means self.now.second)) (pair_byte (A.Meant.means self.now.first) (B.Meant.means self.now.second)) a result }
     {

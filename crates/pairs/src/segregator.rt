@@ -70,6 +70,7 @@ impl<A: Heap, B: Heap> Heap for Segregator<A, B> {
         self.pair.get(a, Kind::Segregator)
     }
 
+    // As offer, by the calls in place of the questions: Rust has no method that is one for `&self` and `&mut self`.
     fn allocate(&mut self, n: u32) -> Result<(u32, u32), Fault> {
         admit(n, LARGEST_SIZE, Kind::Segregator)?;
         if self.is_small(n) {

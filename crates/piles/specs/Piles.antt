@@ -12,8 +12,7 @@ use Rattle.heap.specs.Roundings.{grain, power}
 use Rattle.bump.specs.declared.Bump.{Bump}
 use Rattle.bump.specs.Table.{bump_means, BumpKeeps}
 use Rattle.bitmap.specs.declared.Bitmap.{Bitmap}
-use Rattle.bitmap.specs.Words.{bit_in}
-use Rattle.bitmap.specs.Cells.{bitmap_means, BitmapKeeps}
+use Rattle.bitmap.specs.Cells.{used_in, first_in, bitmap_means, BitmapKeeps}
 use Rattle.boundary_tag.specs.declared.BoundaryTag.{BoundaryTag}
 use Rattle.boundary_tag.specs.Chunks.{chunks, one_free, tag_means, TagKeeps}
 use Rattle.trace.specs.declared.frame.Pile.{Pile}
@@ -68,8 +67,8 @@ pub record FreshBump (n : ℕ) (s : Bump) : Type 0 where
 
 pub record FreshBitmap (n : ℕ) (s : Bitmap) : Type 0 where
   pub region : length s.region.now ≡ n
-  pub used : (x : ℕ) → bit_in s.maps.used.words x ≡ false
-  pub first : (x : ℕ) → bit_in s.maps.first.words x ≡ false
+  pub used : (x : ℕ) → used_in s.maps x ≡ false
+  pub first : (x : ℕ) → first_in s.maps x ≡ false
 
 pub record FreshTags (n : ℕ) (s : BoundaryTag) : Type 0 where
   pub region : length s.region.now ≡ n
@@ -84,10 +83,10 @@ abbrev pub bump_kept : Bump → History → Bump → Type 0
 bump_kept from h s = BumpKeeps from.region.now from.cursor h s.region.now s.cursor
 
 abbrev pub bitmap_shown : Bitmap → Meaning
-bitmap_shown s = bitmap_means s.region.now (bit_in s.maps.used.words) (bit_in s.maps.first.words)
+bitmap_shown s = bitmap_means s.region.now (used_in s.maps) (first_in s.maps)
 
 abbrev pub bitmap_kept : Bitmap → History → Bitmap → Type 0
-bitmap_kept from h s = BitmapKeeps from.region.now (bit_in from.maps.used.words) (bit_in from.maps.first.words) h s.region.now (bit_in s.maps.used.words) (bit_in s.maps.first.words)
+bitmap_kept from h s = BitmapKeeps from.region.now (used_in from.maps) (first_in from.maps) h s.region.now (used_in s.maps) (first_in s.maps)
 
 abbrev pub tags_shown : BoundaryTag → Meaning
 tags_shown s = tag_means s.region.now

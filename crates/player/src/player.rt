@@ -67,7 +67,7 @@ fn fill<H: Heap>(heap: &mut H, id: u8, byte: u8, slot: Slot) -> Outcome
     }
 }
 
-// Does what a frame asks for, with its slot.
+// Does what a frame asks for, with its slot. Each of the three above takes what its own action has.
 fn act<H: Heap>(heap: &mut H, action: Action, slot: &mut Slot) -> Outcome
     ensures { Acted H.Meant.means H.Meant.keeps action slot.old heap.old heap.new (result, slot.new) }
 {

@@ -2,8 +2,8 @@
 ghost use Rattle.std.specs.Prelude.{◌≡◌, replicate, slice_index_or, slice_set};
 ghost use Rattle.player.specs.declared.slots.Slot.TheVariants.{Empty};
 
-// What an id holds: nothing, or a block by its address and length. Not an Option: the rules of a replay name the two states of a slot.
-#[derive(Clone, Copy)]
+// What an id holds: nothing, or a block by its address and length. An enum of its own, as the rules of a replay have it: a slot is empty or holds a block, and says so where it is read.
+#[derive(Clone, Copy, PartialEq, Eq, Debug)]
 pub enum Slot {
     Empty,
     Held(u32, u32),

@@ -6,7 +6,7 @@ use trace::digits::read_digits;
 use trace::recording::LONGEST_TRACE;
 
 // How the trace is given, or that help is asked for.
-#[derive(Clone, Copy)]
+#[derive(Clone, Copy, PartialEq, Eq, Debug)]
 pub enum Form {
     Raw,
     Hex,

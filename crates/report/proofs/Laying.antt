@@ -1,13 +1,10 @@
 -- Texts written on a page, one behind another.
-use Rattle.std.proofs.Common.{◌≡◌, ℕ, zero, suc, ◌+◌, ◌<◌, ◌≤◌, List, [], ◌∷◌, ◌++◌, length, get_or, take, drop, sym, refl, ap, ◌∙◌, subst, add-zero, add_assoc, arith}
+use Rattle.std.proofs.Common.{◌≡◌, ℕ, zero, suc, ◌+◌, ◌<◌, ◌≤◌, List, [], ◌∷◌, ◌++◌, length, get_or, take, drop, sym, ap, ◌∙◌, subst, add_assoc, arith}
 use Rattle.std.specs.List.{flat_map}
-use Rattle.std.proofs.lemmas.List.{append_assoc, length-append, length-take-le, length-drop, take-append-drop, take_at, take_more, take_all, drop_at, drop-drop, flat_map_more}
+use Rattle.std.proofs.lemmas.List.{append_assoc, length-append, length-take-le, length-drop, take_at, take_more, take_all, drop_at, drop-drop, flat_map_more}
 use Rattle.report.specs.declared.lines.Page.{Page}
 use Rattle.report.specs.Lines.{laid}
 use Rattle.report.specs.Pages.{Wrote}
-
-laid_none : (out : List ℕ) (at : ℕ) → out ≡ laid out at []
-laid_none out at = rw add-zero (sym (take-append-drop at out))
 
 length_laid : (out : List ℕ) (at : ℕ) (text : List ℕ) → at + length text ≤ length out → length (laid out at text) ≡ length out
 length_laid out at text room =
@@ -27,9 +24,6 @@ laid_more out out' at n s t room e w =
     ∙ append_assoc (take at out) s (t ++ drop (n + length t) out)
     ∙ ap (λ (z : List ℕ). take at out ++ z) (sym (append_assoc s t (drop (n + length t) out)))
     ∙ ap (λ (k : ℕ). take at out ++ ((s ++ t) ++ drop k out)) ends
-
-pub wrote_none : (p : Page) → p.written ≤ length p.out.now → Wrote p [] p
-wrote_none p h = record { room = omega arith; end = omega arith; out = laid_none p.out.now p.written; buffer = refl }
 
 -- how long the buffer is stays
 pub length_out : (p q : Page) (s : List ℕ) → Wrote p s q → length q.out.now ≡ length p.out.now

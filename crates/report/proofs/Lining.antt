@@ -1,22 +1,19 @@
 -- The lines of the kinds, and the whole report.
-use Rattle.std.proofs.Common.{◌≡◌, ℕ, ◌+◌, ◌*◌, ◌<◌, ◌≤◌, eqb, List, [], ◌∷◌, ◌++◌, length, Some, None, Ok, Option, Result, sym, refl, ap, ◌∙◌, subst, arith}
-use Rattle.std.proofs.lemmas.List.{append-nil, append_assoc, length-append}
-use Rattle.std.proofs.lemmas.Bool.{cond_both, cond-true, cond-false, eq-eqb, ne_eqb}
+use Rattle.std.proofs.Common.{◌≡◌, ℕ, ◌+◌, ◌*◌, ◌<◌, ◌≤◌, eqb, List, [], ◌∷◌, ◌++◌, length, Some, None, Ok, Option, Result, sym, ap, ◌∙◌, subst, arith}
+use Rattle.std.proofs.lemmas.List.{append_assoc, length-append}
+use Rattle.std.proofs.lemmas.Bool.{cond_both, cond-false, ne_eqb}
 use Rattle.heap.specs.declared.fault.Fault.{Fault}
 use Rattle.report.specs.declared.lines.Field.TheVariants.{Byte, Word}
 use Rattle.report.specs.declared.lines.Page.{Page}
 use Rattle.report.specs.declared.tally.Tally.{Tally}
 use Rattle.report.specs.Lines.{line, kind_lines, first_line, report_text, checked_buffer}
 use Rattle.report.specs.Pages.{Wrote}
-use Rattle.report.proofs.Laying.{wrote_none, wrote_on, room_left}
+use Rattle.report.proofs.Laying.{wrote_on}
 
 -- the kinds' lines
 
 abbrev kind_line : ℕ → ℕ → List ℕ
 kind_line k n = line (Byte 18 ∷ Byte k ∷ Word n ∷ [])
-
-kind_none : (k n : ℕ) (ns : List ℕ) → n ≤ 0 → kind_lines k (n ∷ ns) ≡ kind_lines (k + 1) ns
-kind_none k n ns h = ap (λ (t : List ℕ). t ++ kind_lines (k + 1) ns) (cond-true (eqb n 0) [] (kind_line k n) (eq-eqb n 0 (omega arith)))
 
 kind_some : (k n : ℕ) (ns : List ℕ) → 0 < n → kind_lines k (n ∷ ns) ≡ kind_line k n ++ kind_lines (k + 1) ns
 kind_some k n ns h = ap (λ (t : List ℕ). t ++ kind_lines (k + 1) ns) (cond-false (eqb n 0) [] (kind_line k n) (ne_eqb n 0 (λ e. omega arith)))
@@ -28,13 +25,6 @@ pub record KindsFrom (p q : Page) (all : List ℕ) (k : ℕ) (left : List ℕ) :
   pub joined : text ++ kind_lines k left ≡ kind_lines 0 all
   pub few : k + length left ≡ 12
 
-pub kinds_begin : (p : Page) (all : List ℕ) → length all ≡ 12 → p.written ≤ length p.out.now → KindsFrom p p all 0 all
-kinds_begin p all h room = record { text = []; wrote = wrote_none p room; joined = refl; few = omega arith }
-
-pub kinds_end : (p q : Page) (all : List ℕ) (k : ℕ) (left : List ℕ) → KindsFrom p q all k left → length left ≡ 0 → Wrote p (kind_lines 0 all) q
-kinds_end p q all k [] w h = subst (λ (t : List ℕ). Wrote p t q) (sym (append-nil w.text) ∙ w.joined) w.wrote
-kinds_end p q all k (n ∷ ns) w h = absurd (omega arith)
-
 -- one kind more, with no line and with one
 module _ (p q : Page) (all : List ℕ) (k : ℕ) (left : List ℕ) (n : ℕ) (ns : List ℕ) (w : KindsFrom p q all k left) (e : left ≡ n ∷ ns) where
   fewer : k + 1 + length ns ≡ 12
@@ -42,20 +32,6 @@ module _ (p q : Page) (all : List ℕ) (k : ℕ) (left : List ℕ) (n : ℕ) (ns
 
   joined_some : 0 < n → (w.text ++ kind_line k n) ++ kind_lines (k + 1) ns ≡ kind_lines 0 all
   joined_some z = append_assoc w.text (kind_line k n) (kind_lines (k + 1) ns) ∙ ap (λ (t : List ℕ). w.text ++ t) (sym (ap (kind_lines k) e ∙ kind_some k n ns z)) ∙ w.joined
-
-  pub kind_passed : (j : ℕ) → j ≡ k + 1 → n ≤ 0 → KindsFrom p q all j ns
-  kind_passed j s z = subst (λ (i : ℕ). KindsFrom p q all i ns) (sym s) (record {
-    text = w.text;
-    wrote = w.wrote;
-    joined = ap (λ (t : List ℕ). w.text ++ t) (sym (ap (kind_lines k) e ∙ kind_none k n ns z)) ∙ w.joined;
-    few = fewer;
-  })
-
-  pub kind_room : 0 < n → p.written + length (kind_lines 0 all) ≤ length p.out.now → q.written + 13 ≤ length q.out.now
-  kind_room z room =
-      let a = ap length (joined_some z) in
-      let b = length-append (w.text ++ kind_line k n) (kind_lines (k + 1) ns) in
-      room_left p q w.text (kind_line k n) (length (kind_lines 0 all)) w.wrote (omega arith) room
 
   pub kind_wrote : (j : ℕ) (r : Page) → j ≡ k + 1 → 0 < n → Wrote q (line (Byte 18 ∷ Byte k ∷ Word n ∷ [])) r → KindsFrom p r all j ns
   kind_wrote j r s z v = subst (λ (i : ℕ). KindsFrom p r all i ns) (sym s) (record {

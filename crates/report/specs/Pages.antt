@@ -3,6 +3,10 @@ use Rattle.std.specs.Prelude.{◌≡◌, ℕ, ◌+◌, ◌≤◌, List, length}
 use Rattle.report.specs.Lines.{laid}
 use Rattle.report.specs.declared.lines.Page.{Page}
 
+-- there is room for a text
+abbrev pub HasRoom : Page → List ℕ → Type 0
+HasRoom p text = p.written + length text ≤ length p.out.now
+
 pub record Wrote (p : Page) (text : List ℕ) (q : Page) : Type 0 where
   -- there was room for it
   pub room : p.written + length text ≤ length p.out.now

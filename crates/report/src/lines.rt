@@ -2,13 +2,23 @@
 ghost use Rattle.std.specs.Prelude.{◌≡◌, ◌+◌, ◌<◌, ◌≤◌, [], ◌∷◌, length};
 ghost use Rattle.std.specs.List.{flat_map};
 ghost use Rattle.report.specs.Lines.{digit as hex_digit, hex_byte, hex_field, line, kind_lines, first_line, report_text, refusal_text, checked_buffer, Writes};
-ghost use Rattle.report.specs.Pages.{Wrote};
+ghost use Rattle.report.specs.Pages.{HasRoom, Wrote};
 
 use crate::tally::Tally;
 use heap::fault::{Cause, Fault, Kind};
 
 // The least length of the buffer that is lent for a report. A report has at most 245 bytes.
 pub const REPORT_BUFFER: usize = 256;
+
+// What a line tells, by the byte that it begins with.
+#[derive(Clone, Copy)]
+enum LineKind {
+    Frames = 0x10,
+    Loads = 0x11,
+    Refusals = 0x12,
+    FirstRefusal = 0x13,
+    RefusedTrace = 0x1F,
+}
 
 // A part of a line: one, two or four bytes.
 #[derive(Clone, Copy)]
@@ -18,6 +28,7 @@ enum Field {
     Word(u32),
 }
 
+// Upper case: into a slice the library's `hex` writes lower case alone, and a second pass would have to turn it.
 fn digit(n: u8) -> u8
     requires { n < 16 }
     ensures { result ≡ hex_digit n }
@@ -25,7 +36,7 @@ fn digit(n: u8) -> u8
     if n < 10 { b'0' + n } else { b'A' + (n - 10) }
 }
 
-// A lent buffer that is written from its front.
+// A lent buffer that is written from its front. It is the caller's, so neither a Vec, which would allocate, nor an array of this crate's.
 #[derive(Drop)]
 struct Page<'a> {
     out: &'a mut [u8],
@@ -52,7 +63,7 @@ impl<'a> Page<'a> {
 
     // Bytes as two digits each.
     fn digits(&mut self, bytes: &[u8])
-        requires { self.old.written + length (flat_map hex_byte bytes.now) ≤ length self.old.out.now }
+        requires { HasRoom self.old (flat_map hex_byte bytes.now) }
         ensures { Wrote self.old (flat_map hex_byte bytes.now) self.new }
     {
         for byte in bytes {
@@ -62,7 +73,7 @@ impl<'a> Page<'a> {
     }
 
     fn field(&mut self, field: Field)
-        requires { self.old.written + length (hex_field field) ≤ length self.old.out.now }
+        requires { HasRoom self.old (hex_field field) }
         ensures { Wrote self.old (hex_field field) self.new }
     {
         match field {
@@ -74,7 +85,7 @@ impl<'a> Page<'a> {
 
     // A line of these fields, with its newline.
     fn line(&mut self, fields: &[Field])
-        requires { self.old.written + length (line fields.now) ≤ length self.old.out.now }
+        requires { HasRoom self.old (line fields.now) }
         ensures { Wrote self.old (line fields.now) self.new }
     {
         for field in fields {
@@ -85,24 +96,28 @@ impl<'a> Page<'a> {
 
     // A line for each kind that refused a frame, in the order of their numbers.
     fn kinds(&mut self, kinds: &[u32; 12])
-        requires { self.old.written + length (kind_lines 0 kinds.now) ≤ length self.old.out.now }
+        requires { HasRoom self.old (kind_lines 0 kinds.now) }
         ensures { Wrote self.old (kind_lines 0 kinds.now) self.new }
     {
         for (kind, count) in (0..).zip(kinds) {
             if *count > 0 {
-                self.line(&[Field::Byte(0x12), Field::Byte(kind), Field::Word(*count)]);
+                self.line(&[
+                    Field::Byte(LineKind::Refusals as u8),
+                    Field::Byte(kind),
+                    Field::Word(*count),
+                ]);
             }
         }
     }
 
     // The line of the first refused frame, where there is one.
     fn first(&mut self, first: Option<(u32, Fault)>)
-        requires { self.old.written + length (first_line first) ≤ length self.old.out.now }
+        requires { HasRoom self.old (first_line first) }
         ensures { Wrote self.old (first_line first) self.new }
     {
         if let Some((frame, fault)) = first {
             self.line(&[
-                Field::Byte(0x13),
+                Field::Byte(LineKind::FirstRefusal as u8),
                 Field::Word(frame),
                 Field::Byte(fault.cause.number()),
                 Field::Byte(fault.kind.number()),
@@ -112,13 +127,13 @@ impl<'a> Page<'a> {
         }
     }
 
-    // The lines of a whole report.
+    // The lines of a whole report, of a pile by its number.
     fn report(&mut self, pile: u8, tally: &Tally)
-        requires { self.old.written + length (report_text pile tally.now) ≤ length self.old.out.now }
+        requires { HasRoom self.old (report_text pile tally.now) }
         ensures { Wrote self.old (report_text pile tally.now) self.new }
     {
         self.line(&[
-            Field::Byte(0x10),
+            Field::Byte(LineKind::Frames as u8),
             Field::Byte(pile),
             Field::Word(tally.frames),
             Field::Word(tally.granted),
@@ -126,7 +141,7 @@ impl<'a> Page<'a> {
             Field::Word(tally.refused),
         ]);
         self.line(&[
-            Field::Byte(0x11),
+            Field::Byte(LineKind::Loads as u8),
             Field::Half(tally.peak.blocks),
             Field::Word(tally.peak.bytes),
             Field::Half(tally.load.blocks),
@@ -147,7 +162,7 @@ pub fn check_buffer(report: &[u8]) -> Result<(), Fault>
     Ok(())
 }
 
-// Writes the report of a tally into the lent buffer and answers its length. The pile is a number and no enum, since a report may be of any.
+// Writes the report of a tally into the lent buffer and answers its length. The pile stays a number: this crate knows nothing of traces, whose piles have names.
 pub fn write_report(report: &mut [u8], pile: u8, tally: &Tally) -> Result<usize, Fault>
     ensures { Writes (report_text pile tally.now) report.old report.new result }
 {
@@ -164,7 +179,7 @@ pub fn write_refusal(report: &mut [u8], fault: Fault) -> Result<usize, Fault>
     check_buffer(report)?;
     let mut page = Page::new(report);
     page.line(&[
-        Field::Byte(0x1F),
+        Field::Byte(LineKind::RefusedTrace as u8),
         Field::Byte(fault.cause.number()),
         Field::Word(fault.place),
     ]);

@@ -5,7 +5,7 @@ ghost use Rattle.report.specs.Tallies.{load_after, kinds_of, tally_of, Loadable,
 
 use heap::fault::Fault;
 
-// What came of a frame.
+// What came of a frame. Not a Result: a second enum would stand in its Ok, and whoever matches on an outcome would match twice.
 #[derive(Clone, Copy, PartialEq, Eq, Debug)]
 pub enum Outcome {
     // an allocate: the length of the block that was granted

@@ -1,7 +1,7 @@
 -- Six bytes read as a frame, and a frame written as six bytes; whole traces.
 use Rattle.std.proofs.Common.{◌≡◌, ℕ, suc, ◌+◌, ◌-◌, ◌*◌, ◌/◌, ◌%◌, ◌<◌, ◌≤◌, List, [], ◌∷◌, ◌++◌, length, get_or, take, drop, sym, refl, ap, ◌∙◌, arith}
 use borrow.Rule.Slice.PartMut.{put_mid}
-use Rattle.std.proofs.lemmas.List.{take_rest, take_more, take_at, drop_at, drop-drop, append_assoc, flat_map_more, length-take-le, take_all}
+use Rattle.std.proofs.lemmas.List.{take_rest, take_more, take_at, drop_at, drop-drop, append_assoc, flat_map_more, length-take-le}
 use Rattle.trace.specs.declared.frame.Frame.{Frame}
 use Rattle.trace.specs.Frames.{frame_bytes, frames_of, trace_bytes}
 
@@ -30,15 +30,6 @@ lowest a b c d n s e = omega arith
 module _ (xs : List ℕ) (n : ℕ) (some : 6 ≤ length xs) (e : n ≡ get_or xs 2 0 * 16777216 + get_or xs 3 0 * 65536 + get_or xs 4 0 * 256 + get_or xs 5 0) where
   pub read_frames : frames_of xs ≡ record { kind = get_or xs 0 0; id = get_or xs 1 0; number = n } ∷ frames_of (take (length xs - 6) (drop 6 xs))
   read_frames = ap frames_of (six xs some) ∙ (let t = take_rest xs 6 in rw (t, e) refl)
-
-  pub read_bytes : ((i : ℕ) → get_or xs i 0 < 256) → xs ≡ frame_bytes (record { kind = get_or xs 0 0; id = get_or xs 1 0; number = n }) ++ take (length xs - 6) (drop 6 xs)
-  read_bytes b =
-      let p = highest (get_or xs 2 0) (get_or xs 3 0) (get_or xs 4 0) (get_or xs 5 0) n (b 2) (b 3) (b 4) (b 5) e in
-      let q = second (get_or xs 2 0) (get_or xs 3 0) (get_or xs 4 0) (get_or xs 5 0) n (b 3) (b 4) (b 5) e in
-      let r = third (get_or xs 2 0) (get_or xs 3 0) (get_or xs 4 0) (get_or xs 5 0) n (b 4) (b 5) e in
-      let s = lowest (get_or xs 2 0) (get_or xs 3 0) (get_or xs 4 0) (get_or xs 5 0) n (b 5) e in
-      let t = take_rest xs 6 in
-      six xs some ∙ (rw (t, p, q, r, s) refl)
 
 -- a trace of whole frames is its frames written again
 pub written_again : (xs : List ℕ) → ((i : ℕ) → get_or xs i 0 < 256) → length xs % 6 ≡ 0 → trace_bytes (frames_of xs) ≡ xs
@@ -99,11 +90,3 @@ write_more fs i d out out' bs h room e w =
     ∙ ap (λ (z : List ℕ). (p ++ z) ++ drop (6 * i + 6) out) e
     ∙ ap (λ (z : List ℕ). z ++ drop (6 * i + 6) out) (sym (grown fs i d h))
     ∙ ap (λ (n : ℕ). trace_bytes (take (i + 1) fs) ++ drop n out) (sym six-more)
-
-pub wrote_all : (fs : List Frame) (i : ℕ) (out out' : List ℕ) → length fs ≤ i → i ≤ length fs → out' ≡ trace_bytes (take i fs) ++ drop (6 * i) out → frames_of (trace_bytes (take i fs)) ≡ take i fs
-    → (out' ≡ trace_bytes fs ++ drop (6 * length fs) out) × (frames_of (take (6 * length fs) out') ≡ fs)
-wrote_all fs i out out' h k w r =
-    let all : take i fs ≡ fs = take_all i fs h in
-    let n : i ≡ length fs = omega arith in
-    let written : out' ≡ trace_bytes fs ++ drop (6 * length fs) out = w ∙ ap (λ (z : List Frame). trace_bytes z ++ drop (6 * i) out) all ∙ ap (λ (z : ℕ). trace_bytes fs ++ drop (6 * z) out) n in
-    (written, ap (λ (z : List ℕ). frames_of (take (6 * length fs) z)) written ∙ ap frames_of (take_at (trace_bytes fs) (drop (6 * length fs) out) (6 * length fs) (length_trace fs)) ∙ (rw all at r))

@@ -22,18 +22,6 @@ headed f fs p e = ap (λ (z : Result Pile Fault). recorded_pile (and_then z (λ 
     named (Ok rest) = refl
     named (Err g) = refl
 
--- a frame that passed leaves it to the others
-pub passed_on : (p : Pile) (k : ℕ) (f : Frame) (fs : List Frame) (a : Action) → at_frame k (action_of f) ≡ Ok a → pile_unless p k (f ∷ fs) ≡ pile_unless p (k + 1) fs
-passed_on p k f fs a e = ap (λ (r : Result Action Fault). and_then (and_then r (λ b. and_then (actions_from (k + 1) fs) (λ rest. Ok (b ∷ rest)))) (λ _. Ok p)) e ∙ joins (actions_from (k + 1) fs)
-  where
-    joins : (r : Result (List Action) Fault) → and_then (and_then r (λ rest. Ok (a ∷ rest))) (λ _. Ok p) ≡ and_then r (λ _. Ok p)
-    joins (Ok rest) = refl
-    joins (Err g) = refl
-
--- one that did not pass decides
-pub stopped : (p : Pile) (k : ℕ) (f : Frame) (fs : List Frame) (g : Fault) → at_frame k (action_of f) ≡ Err g → pile_unless p k (f ∷ fs) ≡ Err g
-stopped p k f fs g e = ap (λ (r : Result Action Fault). and_then (and_then r (λ b. and_then (actions_from (k + 1) fs) (λ rest. Ok (b ∷ rest)))) (λ _. Ok p)) e
-
 -- the actions of frames that passed are those among them
 actions_all : (k : ℕ) (fs : List Frame) (xs : List Action) → actions_from k fs ≡ Ok xs → actions_in fs ≡ xs
 actions_all k [] xs e = cc

@@ -4,7 +4,7 @@ ghost use Rattle.trace.specs.Frames.{frame_bytes, frames_of, frames_left, pile_n
 
 use heap::fault::Cause;
 
-// Its number is written highest byte first.
+// Any six bytes are a frame, so its kind is a number here; `pile` and `action` tell what it asks for. Its number is written highest byte first.
 #[derive(Clone, Copy, PartialEq, Eq, Debug)]
 pub struct Frame {
     pub kind: u8,
@@ -61,7 +61,7 @@ pub enum Action {
 }
 
 impl Action {
-    // The id whose slot it is about. Relief is about none, and has id 0.
+    // The id whose slot it is about. Relief is about none, and has id 0 as its frame has.
     pub fn id(self) -> u8
         ensures { result ≡ id_of self }
     {

@@ -50,7 +50,7 @@ pub fn write_trace(frames: &[Frame], out: &mut [u8]) -> Option<usize>
     if out.len() / 6 < frames.len() {
         return None;
     }
-    // By index: of a slice that is lent in chunks, or part by part, the proof knows nothing afterwards.
+    // By index: tried with chunks_exact_mut and with parts split off in turn, and of the whole buffer the proof did not close.
     for (i, frame) in frames.iter().enumerate() {
         let bytes = frame.to_bytes();
         out[6 * i..6 * i + 6].copy_from_slice(&bytes);

@@ -1,9 +1,8 @@
-use Rattle.std.proofs.Common.{◌≡◌, ◌<◌, length, Ok, Err, sym, ◌∙◌}
-use Rattle.std.proofs.lemmas.Result.{err_from_is_err_and}
+use Rattle.std.proofs.Common.{◌≡◌, ◌<◌, length, Ok, sym, ◌∙◌}
 use Rattle.heap.specs.declared.fault.Kind.TheVariants.{Bitmap as BitmapK}
 use Rattle.heap.specs.Meaning.{Covered}
 use Rattle.heap.specs.Checks.{checked_fill}
-use Rattle.heap.proofs.Checked.{fill_some, fill_covered, fill_checked}
+use Rattle.heap.proofs.Checked.{fill_some, fill_covered, fill_refused}
 use Rattle.bitmap.specs.Words.{bit_in}
 use Rattle.bitmap.specs.Cells.{cells_of, bitmap_live, bitmap_means}
 use Rattle.bitmap.specs.Laws.{bitmap_lawful, covered_region}
@@ -33,5 +32,4 @@ returns-in_err-check_fill-clause-answer c =
     let xs = c.args.self.now.region.now in
     let u = bit_in c.args.self.now.maps.used.words in
     let f = bit_in c.args.self.now.maps.first.words in
-    let p = err_from_is_err_and c.from_residual.result c.from_residual.ensures.1 in
-    rw (p.1, p.2) (fill_checked BitmapK (bitmap_means xs u f) (bitmap_lawful xs u f) c.args.a c.find.result c.find.ensures c.args.c (Err c.in_err-check_fill.field-0.0) c.in_err-check_fill.ensures)
+    fill_refused BitmapK (bitmap_means xs u f) (bitmap_lawful xs u f) c.args.a c.find.result c.find.ensures c.args.c _ c.from_residual.result c.in_err-check_fill.ensures c.from_residual.ensures.1

@@ -1,9 +1,8 @@
-use Rattle.std.proofs.Common.{◌≡◌, ℕ, ◌+◌, ◌/◌, ◌<◌, ◌≤◌, List, length, Ok, Err, Option, sym, ◌∙◌, arith}
-use Rattle.std.proofs.lemmas.Result.{err_from_is_err_and}
+use Rattle.std.proofs.Common.{◌≡◌, ℕ, ◌+◌, ◌/◌, ◌<◌, ◌≤◌, List, length, Ok, Option, sym, ◌∙◌, arith}
 use Rattle.heap.specs.declared.fault.Kind.TheVariants.{Bitmap as BitmapK}
 use Rattle.heap.specs.Meaning.{Block, Finds}
 use Rattle.heap.specs.Checks.{begun, checked_free}
-use Rattle.heap.proofs.Checked.{begun_is, free_checked}
+use Rattle.heap.proofs.Checked.{begun_is, free_checked, free_refused}
 use Rattle.bitmap.specs.Words.{bit_in}
 use Rattle.bitmap.specs.Cells.{Map, cells_of, bitmap_live, bitmap_means}
 use Rattle.bitmap.specs.Laws.{bitmap_lawful}
@@ -50,5 +49,4 @@ returns-in_err-check_free-clause-answer c =
     let xs = c.args.self.now.region.now in
     let u = bit_in c.args.self.now.maps.used.words in
     let f = bit_in c.args.self.now.maps.first.words in
-    let p = err_from_is_err_and c.from_residual.result c.from_residual.ensures.1 in
-    rw (p.1, p.2) (free_checked BitmapK (bitmap_means xs u f) (bitmap_lawful xs u f) c.args.a c.find-found.result c.find-found.ensures (Err c.in_err-check_free.field-0.0) c.in_err-check_free.ensures)
+    free_refused BitmapK (bitmap_means xs u f) (bitmap_lawful xs u f) c.args.a c.find-found.result c.find-found.ensures _ c.from_residual.result c.in_err-check_free.ensures c.from_residual.ensures.1

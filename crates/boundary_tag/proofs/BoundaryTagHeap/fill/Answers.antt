@@ -1,9 +1,8 @@
-use Rattle.std.proofs.Common.{◌≡◌, ◌<◌, Ok, Err, sym, ◌∙◌}
-use Rattle.std.proofs.lemmas.Result.{err_from_is_err_and}
+use Rattle.std.proofs.Common.{◌≡◌, ◌<◌, Ok, sym, ◌∙◌}
 use Rattle.heap.specs.declared.fault.Kind.TheVariants.{BoundaryTag as TagK}
 use Rattle.heap.specs.Meaning.{Covered}
 use Rattle.heap.specs.Checks.{checked_fill}
-use Rattle.heap.proofs.Checked.{fill_some, fill_covered, fill_checked}
+use Rattle.heap.proofs.Checked.{fill_some, fill_covered, fill_refused}
 use Rattle.boundary_tag.specs.Chunks.{live_in, chunks, tag_means, Paint}
 use Rattle.boundary_tag.specs.Laws.{tag_lawful, covered_region}
 use Rattle.boundary_tag.proofs.Calls.{painted_paint, tag_fills, keeps_fills}
@@ -22,8 +21,7 @@ painted c =
 pub returns-in_err-check_fill-clause-answer : goal.returns-in_err-check_fill-clause-answer
 returns-in_err-check_fill-clause-answer c =
     let xs = c.args.self.now.region.now in
-    let p = err_from_is_err_and c.from_residual.result c.from_residual.ensures.1 in
-    rw (p.1, p.2) (fill_checked TagK (tag_means xs) (tag_lawful xs) c.args.a c.find.result c.find.ensures c.args.c (Err c.in_err-check_fill.field-0.0) c.in_err-check_fill.ensures)
+    fill_refused TagK (tag_means xs) (tag_lawful xs) c.args.a c.find.result c.find.ensures c.args.c _ c.from_residual.result c.in_err-check_fill.ensures c.from_residual.ensures.1
 
 pub returns-clause-after : goal.returns-clause-after
 returns-clause-after c = tag_fills c.args.self.now.region.now c.paint.new.region c.args.a c.args.c c.args.b (Ok tt) (painted c)

@@ -1,7 +1,6 @@
-use Rattle.std.proofs.Common.{◌<◌, Ok, Err, sym, ◌∙◌}
-use Rattle.std.proofs.lemmas.Result.{err_from_is_err_and}
+use Rattle.std.proofs.Common.{◌<◌, Ok, sym, ◌∙◌}
 use Rattle.heap.specs.declared.fault.Kind.TheVariants.{BoundaryTag as TagK}
-use Rattle.heap.proofs.Checked.{free_checked}
+use Rattle.heap.proofs.Checked.{free_checked, free_refused}
 use Rattle.boundary_tag.specs.Chunks.{chunks, live_in, tag_means, Release}
 use Rattle.boundary_tag.specs.Laws.{tag_lawful}
 use Rattle.boundary_tag.proofs.Joining.{release}
@@ -17,8 +16,7 @@ released c =
 pub returns-in_err-check_free-clause-answer : goal.returns-in_err-check_free-clause-answer
 returns-in_err-check_free-clause-answer c =
     let xs = c.args.self.now.region.now in
-    let p = err_from_is_err_and c.from_residual.result c.from_residual.ensures.1 in
-    rw (p.1, p.2) (free_checked TagK (tag_means xs) (tag_lawful xs) c.args.a c.find.result c.find.ensures (Err c.in_err-check_free.field-0.0) c.in_err-check_free.ensures)
+    free_refused TagK (tag_means xs) (tag_lawful xs) c.args.a c.find.result c.find.ensures _ c.from_residual.result c.in_err-check_free.ensures c.from_residual.ensures.1
 
 pub returns-clause-after : goal.returns-clause-after
 returns-clause-after c = tag_frees c.args.self.now.region.now c.write.new.region c.args.a (Ok tt) (released c)

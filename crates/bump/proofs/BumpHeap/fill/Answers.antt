@@ -1,9 +1,8 @@
-use Rattle.std.proofs.Common.{◌≡◌, ◌<◌, Ok, Err, sym}
-use Rattle.std.proofs.lemmas.Result.{err_from_is_err_and}
+use Rattle.std.proofs.Common.{◌≡◌, ◌<◌, Ok, sym}
 use Rattle.heap.specs.declared.fault.Kind.TheVariants.{Bump as BumpK}
 use Rattle.heap.specs.Meaning.{Covered}
 use Rattle.heap.specs.Checks.{checked_fill}
-use Rattle.heap.proofs.Checked.{fill_some, fill_covered, fill_checked}
+use Rattle.heap.proofs.Checked.{fill_some, fill_covered, fill_refused}
 use Rattle.bump.specs.Table.{live_in, table, bump_means}
 use Rattle.bump.specs.Laws.{bump_lawful, covered_region}
 use Rattle.bump.proofs.Calls.{painted_paint, bump_filled, keeps_filled}
@@ -13,8 +12,7 @@ pub returns-in_err-check_fill-clause-answer : goal.returns-in_err-check_fill-cla
 returns-in_err-check_fill-clause-answer c =
     let xs = c.args.self.now.region.now in
     let cursor = c.args.self.now.cursor in
-    let p = err_from_is_err_and c.from_residual.result c.from_residual.ensures.1 in
-    rw (p.1, p.2) (fill_checked BumpK (bump_means xs cursor) (bump_lawful xs cursor) c.args.a c.find.result c.find.ensures c.args.c (Err c.in_err-check_fill.field-0.0) c.in_err-check_fill.ensures)
+    fill_refused BumpK (bump_means xs cursor) (bump_lawful xs cursor) c.args.a c.find.result c.find.ensures c.args.c _ c.from_residual.result c.in_err-check_fill.ensures c.from_residual.ensures.1
 
 pub returns : goal.returns
 returns c =

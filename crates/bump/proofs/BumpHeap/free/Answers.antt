@@ -1,7 +1,5 @@
-use Rattle.std.proofs.Common.{Err}
-use Rattle.std.proofs.lemmas.Result.{err_from_is_err_and}
 use Rattle.heap.specs.declared.fault.Kind.TheVariants.{Bump as BumpK}
-use Rattle.heap.proofs.Checked.{free_checked}
+use Rattle.heap.proofs.Checked.{free_refused}
 use Rattle.bump.specs.Table.{bump_means}
 use Rattle.bump.specs.Laws.{bump_lawful}
 use Rattle.bump.proofs.Calls.{bump_freed, keeps_freed}
@@ -11,8 +9,7 @@ pub returns-in_err-check_free-clause-answer : goal.returns-in_err-check_free-cla
 returns-in_err-check_free-clause-answer c =
     let xs = c.args.self.now.region.now in
     let cursor = c.args.self.now.cursor in
-    let p = err_from_is_err_and c.from_residual.result c.from_residual.ensures.1 in
-    rw (p.1, p.2) (free_checked BumpK (bump_means xs cursor) (bump_lawful xs cursor) c.args.a c.find.result c.find.ensures (Err c.in_err-check_free.field-0.0) c.in_err-check_free.ensures)
+    free_refused BumpK (bump_means xs cursor) (bump_lawful xs cursor) c.args.a c.find.result c.find.ensures _ c.from_residual.result c.in_err-check_free.ensures c.from_residual.ensures.1
 
 pub returns : goal.returns
 returns c =

@@ -1,7 +1,6 @@
-use Rattle.std.proofs.Common.{Err, sym}
-use Rattle.std.proofs.lemmas.Result.{err_from_is_err_and}
+use Rattle.std.proofs.Common.{sym}
 use Rattle.heap.specs.declared.fault.Kind.TheVariants.{FreeList as FreeListK}
-use Rattle.heap.proofs.Checked.{fill_covered, fill_checked}
+use Rattle.heap.proofs.Checked.{fill_covered, fill_refused}
 use Rattle.heap.proofs.Offers.{own_fill}
 use Rattle.free_list.specs.FreeLists.{unheld, free_listed}
 use Rattle.free_list.specs.FreeList.{listed}
@@ -37,5 +36,4 @@ returns-in_err-check_fill-clause-answer g c =
     let held = listed s.held in
     let L = g.R.Rounding.LARGEST in
     let R = g.R.Rounding.rounds in
-    let p = err_from_is_err_and c.from_residual.result c.from_residual.ensures.1 in
-    rw (p.1, p.2) ((fill_checked FreeListK (free_listed L R held m) (free_listed_lawful L R held m g.R.Rounding.lawful (g.H.Meant.lawful s.below)) c.args.a c.covering.result c.covering.ensures c.args.c (Err c.in_err-check_fill.field-0.0) c.in_err-check_fill.ensures))
+    fill_refused FreeListK (free_listed L R held m) (free_listed_lawful L R held m g.R.Rounding.lawful (g.H.Meant.lawful s.below)) c.args.a c.covering.result c.covering.ensures c.args.c _ c.from_residual.result c.in_err-check_fill.ensures c.from_residual.ensures.1

@@ -6,14 +6,14 @@ use Rattle.layers.specs.Affixed.{asked, marked_granted, marked_whole, marked_off
 use Rattle.layers.proofs.affix.AffixHeap.allocate.Goals as goal
 
 pub overflow_add-start : goal.overflow_add-start
-overflow_add-start g c = let e = (asked (g.H.Meant.means c.args.self.now.below) (g.H.Meant.lawful c.args.self.now.below) c.args.n c.in_ok-n.n c.admit.result c.allocate.result c.hand_up.result (c.in_ok-start.start, c.in_ok-start.length) c.admit.ensures c.in_ok-n.was c.allocate.ensures.answer c.hand_up.ensures c.in_ok-start.was).ends in omega arith
+overflow_add-start g c = let e = (asked (g.H.Meant.means c.args.self.now.below) (g.H.Meant.lawful c.args.self.now.below) c.args.n c.in_ok-n.n _ _ _ (c.in_ok-start.start, c.in_ok-start.length) c.admit.ensures c.in_ok-n.was c.allocate.ensures.answer c.hand_up.ensures c.in_ok-start.was).ends in omega arith
 
 pub overflow_add-result : goal.overflow_add-result
-overflow_add-result g c = let e = (asked (g.H.Meant.means c.args.self.now.below) (g.H.Meant.lawful c.args.self.now.below) c.args.n c.in_ok-n.n c.admit.result c.allocate.result c.hand_up.result (c.in_ok-start.start, c.in_ok-start.length) c.admit.ensures c.in_ok-n.was c.allocate.ensures.answer c.hand_up.ensures c.in_ok-start.was).ends in let l = (asked (g.H.Meant.means c.args.self.now.below) (g.H.Meant.lawful c.args.self.now.below) c.args.n c.in_ok-n.n c.admit.result c.allocate.result c.hand_up.result (c.in_ok-start.start, c.in_ok-start.length) c.admit.ensures c.in_ok-n.was c.allocate.ensures.answer c.hand_up.ensures c.in_ok-start.was).long in omega arith
+overflow_add-result g c = let e = (asked (g.H.Meant.means c.args.self.now.below) (g.H.Meant.lawful c.args.self.now.below) c.args.n c.in_ok-n.n _ _ _ (c.in_ok-start.start, c.in_ok-start.length) c.admit.ensures c.in_ok-n.was c.allocate.ensures.answer c.hand_up.ensures c.in_ok-start.was).ends in let l = (asked (g.H.Meant.means c.args.self.now.below) (g.H.Meant.lawful c.args.self.now.below) c.args.n c.in_ok-n.n _ _ _ (c.in_ok-start.start, c.in_ok-start.length) c.admit.ensures c.in_ok-n.was c.allocate.ensures.answer c.hand_up.ensures c.in_ok-start.was).long in omega arith
 
 pub returns : goal.returns
 returns g c =
-    let d = (asked (g.H.Meant.means c.args.self.now.below) (g.H.Meant.lawful c.args.self.now.below) c.args.n c.in_ok-n.n c.admit.result c.allocate.result c.hand_up.result (c.in_ok-start.start, c.in_ok-start.length) c.admit.ensures c.in_ok-n.was c.allocate.ensures.answer c.hand_up.ensures c.in_ok-start.was) in
+    let d = (asked (g.H.Meant.means c.args.self.now.below) (g.H.Meant.lawful c.args.self.now.below) c.args.n c.in_ok-n.n _ _ _ (c.in_ok-start.start, c.in_ok-start.length) c.admit.ensures c.in_ok-n.was c.allocate.ensures.answer c.hand_up.ensures c.in_ok-start.was) in
     let w = g.H.Meant.lawful c.args.self.now.below in
     let m = g.H.Meant.means c.args.self.now.below in
     let m₁ = g.H.Meant.means c.allocate.new.self in

@@ -1,12 +1,11 @@
-use Rattle.std.proofs.Common.{◌≡◌, ◌<◌, Ok, Err, sym, ◌∙◌}
+use Rattle.std.proofs.Common.{◌≡◌, ◌<◌, Ok, sym, ◌∙◌}
 use Rattle.heap.specs.declared.fault.Kind.TheVariants.{Affix as AffixK}
 use Rattle.heap.specs.Meaning.{Covered}
 use Rattle.heap.specs.Checks.{checked_fill}
-use Rattle.heap.proofs.Checked.{fill_some, fill_covered, fill_checked}
+use Rattle.heap.proofs.Checked.{fill_some, fill_covered, fill_refused}
 use Rattle.heap.proofs.Offers.{own_fill, own_after_fill}
 use Rattle.layers.specs.Affixes.{affix_live, affixed}
 use Rattle.layers.specs.Affixed.{covered_outer, affixed_lawful, affixed_fills, whole_fills, sent_fill}
-use Rattle.std.proofs.lemmas.Result.{err_from_is_err_and}
 use Rattle.layers.proofs.affix.AffixHeap.fill.Goals as goal
 
 pub returns : goal.returns
@@ -35,6 +34,4 @@ pub returns-in_err-check_fill-clause-answer : goal.returns-in_err-check_fill-cla
 returns-in_err-check_fill-clause-answer g c =
     let s = c.args.self.now.below in
     let m = g.H.Meant.means s in
-    let p = err_from_is_err_and c.from_residual.result c.from_residual.ensures.1 in
-    let f = c.in_err-check_fill.field-0.0 in
-    rw (p.1, p.2) ((fill_checked AffixK (affixed m) (affixed_lawful m (g.H.Meant.lawful s)) c.args.a c.inner.result c.inner.ensures c.args.c (Err f) (sym c.in_err-check_fill.was ∙ c.check_fill.ensures)))
+    fill_refused AffixK (affixed m) (affixed_lawful m (g.H.Meant.lawful s)) c.args.a c.inner.result c.inner.ensures c.args.c _ c.from_residual.result (sym c.in_err-check_fill.was ∙ c.check_fill.ensures) c.from_residual.ensures.1

@@ -1,10 +1,9 @@
-use Rattle.std.proofs.Common.{◌<◌, Ok, Err, sym, ◌∙◌}
+use Rattle.std.proofs.Common.{◌<◌, Ok, sym, ◌∙◌}
 use Rattle.heap.specs.declared.fault.Kind.TheVariants.{Affix as AffixK}
-use Rattle.heap.proofs.Checked.{free_checked}
+use Rattle.heap.proofs.Checked.{free_checked, free_refused}
 use Rattle.heap.proofs.Offers.{own_after_free}
 use Rattle.layers.specs.Affixes.{affix_live, affixed}
 use Rattle.layers.specs.Affixed.{affixed_lawful, affixed_frees, whole_frees, sent_free}
-use Rattle.std.proofs.lemmas.Result.{err_from_is_err_and}
 use Rattle.layers.proofs.affix.AffixHeap.free.Goals as goal
 
 pub returns-clause-kept : goal.returns-clause-kept
@@ -25,6 +24,4 @@ pub returns-in_err-check_free-clause-answer : goal.returns-in_err-check_free-cla
 returns-in_err-check_free-clause-answer g c =
     let s = c.args.self.now.below in
     let m = g.H.Meant.means s in
-    let p = err_from_is_err_and c.from_residual.result c.from_residual.ensures.1 in
-    let f = c.in_err-check_free.field-0.0 in
-    rw (p.1, p.2) ((free_checked AffixK (affixed m) (affixed_lawful m (g.H.Meant.lawful s)) c.args.a c.inner.result c.inner.ensures (Err f) (sym c.in_err-check_free.was ∙ c.check_free.ensures)))
+    free_refused AffixK (affixed m) (affixed_lawful m (g.H.Meant.lawful s)) c.args.a c.inner.result c.inner.ensures _ c.from_residual.result (sym c.in_err-check_free.was ∙ c.check_free.ensures) c.from_residual.ensures.1
