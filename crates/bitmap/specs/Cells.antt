@@ -2,7 +2,7 @@
 use Rattle.std.specs.Prelude.{◌≡◌, ℕ, zero, suc, ◌+◌, ◌-◌, ◌*◌, ◌/◌, ◌%◌, ◌<◌, ◌≤◌, min, Bool, true, false, cond, not, ◌&&◌, List, [], ◌∷◌, length, Some, None, Ok, Err, Option, Result, ◌==◌, nat_le, nat_lt, slice_index}
 use Rattle.heap.specs.declared.fault.Fault.{Fault}
 use Rattle.heap.specs.declared.fault.Kind.TheVariants.{Bitmap as BitmapK}
-use Rattle.heap.specs.declared.fault.Cause.TheVariants.{Full}
+use Rattle.heap.specs.declared.fault.Cause.TheVariants.{Full, NotLive}
 use Rattle.heap.specs.Faults.{raised, and_then}
 use Rattle.heap.specs.Checks.{admitted}
 use Rattle.heap.specs.Meaning.{Meaning, Block, In, Covered}
@@ -76,6 +76,13 @@ abbrev pub LowestRun : Map → Map → ℕ → ℕ → Option ℕ → Type 0
 LowestRun used first cells w (Some i) = Fits used first cells w i × ((j : ℕ) → j < i → Fits used first cells w j → ⊥)
 LowestRun used first cells w None = (j : ℕ) → Fits used first cells w j → ⊥
 
+-- how far a search has come: it found none before cell i, and the last so many cells are free
+pub record Scanned (used first : Map) (cells w i run : ℕ) : Type 0 where
+  pub most : run ≤ i
+  pub free : (x : ℕ) → i ≤ x + run → x < i → used x ≡ false
+  pub before : (x : ℕ) → x + run + 1 ≡ i → used x ≡ true
+  pub none : (j : ℕ) → j + w ≤ i → Fits used first cells w j → ⊥
+
 -- whether a map has none of the w cells from i on
 unfoldable pub none_in : ℕ → Map → ℕ → Bool
 none_in zero c i = true
@@ -129,6 +136,21 @@ pub record Marked (i w : ℕ) (u f u' f' : Map) : Type 0 where
 pub record Unmarked (i w : ℕ) (u f u' f' : Map) : Type 0 where
   pub used : (x : ℕ) → u' x ≡ cond (inside i w x) false (u x)
   pub first : (x : ℕ) → f' x ≡ cond (inside i w x) false (f x)
+
+-- an allocate by its answer: the cells of the granted block make one, and a refused one changes nothing
+abbrev pub Takes : Map → Map → Map → Map → Result Block Fault → Type 0
+Takes u f u' f' (Ok b) = Marked (b.0 / 64) (b.1 / 64) u f u' f'
+Takes u f u' f' (Err g) = (u' ≡ u) × (f' ≡ f)
+
+-- an accepted free: the cells of the block at a, one of so many cells, are free
+pub record Release (cells a : ℕ) (u f u' f' : Map) : Type 0 where
+  pub was : 0 < bitmap_live u f cells a
+  pub unmarked : Unmarked (a / 64) (bitmap_live u f cells a / 64) u f u' f'
+
+-- a free by its answer
+abbrev pub Releases : ℕ → ℕ → Map → Map → Map → Map → Result (Unit {0}) Fault → Type 0
+Releases cells a u f u' f' (Ok t) = Release cells a u f u' f'
+Releases cells a u f u' f' (Err g) = (bitmap_live u f cells a ≡ 0) × (g ≡ raised NotLive BitmapK a) × (u' ≡ u) × (f' ≡ f)
 
 -- What a bitmap heap keeps.
 

@@ -1,7 +1,11 @@
--- The blocks that two maps tell of.
-use Rattle.std.proofs.Common.{◌≡◌, ℕ, zero, suc, ◌+◌, ◌-◌, ◌*◌, ◌/◌, ◌%◌, ◌<◌, ◌≤◌, true, false, not, ◌&&◌, eqb, ltb, ◌⊎◌, ap, ◌∙◌, subst, ⊎_elim, arith}
+-- The blocks that two maps tell of, and runs of free cells.
+use Rattle.std.proofs.Common.{◌≡◌, ℕ, zero, suc, ◌+◌, ◌-◌, ◌*◌, ◌/◌, ◌%◌, ◌<◌, ◌≤◌, true, false, not, ◌&&◌, eqb, ltb, ◌⊎◌, sym, ap, ◌∙◌, subst, inl, inr, ⊎_elim, arith}
+use Rattle.heap.specs.Meaning.{In}
 use Rattle.std.proofs.lemmas.Bool.{both_ways, cond-true, cond-false, eq-eqb, ne_eqb, ltb-true, lt-ltb, le-ltb, cases_eq, cases_lt, cases_Bool, cases_order, and_parts, and_from, and_left, and_right, not-true, not_from_false, not_from_true}
-use Rattle.bitmap.specs.Cells.{Map, starts, goes_on, follow, Runs, cells_at, bitmap_live}
+use Rattle.bitmap.specs.Cells.{Map, starts, goes_on, follow, Runs, Back, cells_at, bitmap_live, Scanned}
+
+le_or : (a b : ℕ) → (a ≤ b) ⊎ (b < a)
+le_or a b = ⊎_elim (λ (l : b < a). inr l) (λ (l : a ≤ b). inl l) (cases_lt b a)
 
 pub follow_runs : (n : ℕ) (c : Map) (i : ℕ) → ((x : ℕ) → i + n ≤ x → c x ≡ false) → Runs c i (i + follow n c i)
 unfolding follow
@@ -132,3 +136,66 @@ module _ (u f : Map) (cells : ℕ) where
   pub lives_used : (a l : ℕ) (b : Lives a l) (x : ℕ) → b.cell ≤ x → x < b.end → u x ≡ true
   lives_used a l b x h m =
       ⊎_elim (λ (q : x ≡ b.cell). ap u q ∙ starts_used b.cell b.starts) (λ (q : x ≡ b.cell → ⊥). on_used x (b.runs.all x (omega arith) m)) (cases_eq x b.cell)
+
+  -- find
+  pub found_block : (a p e : ℕ) → Back (goes_on u f cells) (a / 64) p → starts u f cells p ≡ true → Runs (goes_on u f cells) (p + 1) e → (bitmap_live u f cells (64 * p) ≡ 64 * (e - p)) × In (64 * p) (64 * (e - p)) a
+  found_block a p e b s r =
+      let from = b.from in
+      let more : a / 64 < e =
+      ⊎_elim
+      (λ (q : a / 64 < e). q)
+      (λ (q : e ≤ a / 64). let i = r.from in absurd (both_ways (goes_on u f cells e) r.stop (b.all e (omega arith) q)))
+      (cases_lt (a / 64) e) in
+      (live_is p e s r, record { from = omega arith; below = omega arith })
+
+  pub found_none : (a p : ℕ) → Back (goes_on u f cells) (a / 64) p → starts u f cells p ≡ false → (b : ℕ) → In b (bitmap_live u f cells b) a → ⊥
+  found_none a p k s b i =
+      let lo = i.from in
+      let hi = i.below in
+      let v = lives b (omega arith) in
+      let at = v.at in
+      let long = v.long in
+      let c = v.cell in
+      let e = v.end in
+      let c-low : c ≤ a / 64 = omega arith in
+      let c-high : a / 64 < e = omega arith in
+      ⊎_elim
+      (λ (q : p ≡ c). both_ways (starts u f cells c) (ap (starts u f cells) (sym q) ∙ s) v.starts)
+      (λ (q : (p < c) ⊎ (c < p)). ⊎_elim
+      (λ (l : p < c). both_ways (starts u f cells c) (on_or_starts c (k.all c l c-low)) v.starts)
+      (λ (l : c < p). let kf = k.from in both_ways (goes_on u f cells p) (k.stop (omega arith)) (v.runs.all p (omega arith) (omega arith)))
+      q)
+      (cases_order p c)
+
+  -- a search
+  module _ (w i run r : ℕ) (s : Scanned u f cells w i run) (yes : u i ≡ true → r ≡ 0) (none : u i ≡ false → r ≡ run + 1) where
+    now_free : (x : ℕ) → i + 1 ≤ x + r → x < i + 1 → u x ≡ false
+    now_free x l m =
+        let most = s.most in
+        ⊎_elim
+        (λ (e : u i ≡ true). absurd (let z = yes e in let y : ⊥ = omega arith in y))
+        (λ (e : u i ≡ false). let z = none e in ⊎_elim (λ (q : x ≡ i). ap u q ∙ e) (λ (q : x ≡ i → ⊥). s.free x (omega arith) (omega arith)) (cases_eq x i))
+        (cases_Bool (u i))
+
+    now_most : r ≤ i + 1
+    now_most = let most = s.most in ⊎_elim (λ (e : u i ≡ true). let z = yes e in omega arith) (λ (e : u i ≡ false). let z = none e in omega arith) (cases_Bool (u i))
+
+    now_before : (x : ℕ) → x + r + 1 ≡ i + 1 → u x ≡ true
+    now_before x l = ⊎_elim (λ (e : u i ≡ true). let z = yes e in let q : x ≡ i = omega arith in ap u q ∙ e) (λ (e : u i ≡ false). let z = none e in s.before x (omega arith)) (cases_Bool (u i))
+
+    pub scanned_more : (w ≤ r → goes_on u f cells (i + 1) ≡ true) → Scanned u f cells w (i + 1) r
+    scanned_more on = record {
+      most = now_most;
+      free = now_free;
+      before = now_before;
+      none = λ j l k.
+          ⊎_elim
+          (λ (q : j + w ≤ i). s.none j q k)
+          (λ (q : i < j + w).
+          let at : j + w ≡ i + 1 = omega arith in
+          ⊎_elim
+          (λ (m : w ≤ r). both_ways (goes_on u f cells (i + 1)) (subst (λ (z : ℕ). goes_on u f cells z ≡ false) at k.end) (on m))
+          (λ (m : r < w). let x = i - r in let y : r ≤ i = omega arith in both_ways (u x) (k.free x (omega arith) (omega arith)) (now_before x (omega arith)))
+          (le_or w r))
+          (le_or (j + w) i);
+    }

@@ -2,8 +2,9 @@
 #![tactic(auto)]
 
 ghost use Rattle.std.specs.Prelude.{◌≡◌, ℕ, false, length};
-ghost use Rattle.heap.specs.Meaning.{NothingLive};
-ghost use Rattle.bitmap.specs.Cells.{used_in, first_in, cells_of, bitmap_means, BitmapKeeps};
+ghost use Rattle.heap.specs.Histories.{after_allocate, after_free, Kept};
+ghost use Rattle.heap.specs.Meaning.{NothingLive, MayFree, Allocates, Frees};
+ghost use Rattle.bitmap.specs.Cells.{used_in, first_in, cells_of, bitmap_means, Takes, Releases, BitmapKeeps};
 ghost use Rattle.bitmap.specs.Laws.{bitmap_lawful};
 ghost use Rattle.bitmap.specs.Keeping.{bitmap_begins};
 
@@ -55,6 +56,7 @@ impl<'r> Meant for Bitmap<'r> {
     ghost begins = { λ s. bitmap_begins s.region.now (used_in s.maps) (first_in s.maps) };
 }
 
+// What every heap owes is said again where a call says more: `maps` is what it leaves of the two maps, whatever they were. A refused call leaves them.
 impl<'r> Heap for Bitmap<'r> {
     fn span(&self) -> u32 {
         CELL * self.cells()
@@ -88,14 +90,24 @@ impl<'r> Heap for Bitmap<'r> {
         Ok(self.region[a as usize])
     }
 
-    fn allocate(&mut self, n: u32) -> Result<(u32, u32), Fault> {
+    fn allocate(&mut self, n: u32) -> Result<(u32, u32), Fault>
+        ensures answer { result ≡ (bitmap_means self.old.region.now (used_in self.old.maps) (first_in self.old.maps)).offer n }
+        ensures after { Allocates (bitmap_means self.old.region.now (used_in self.old.maps) (first_in self.old.maps)) (bitmap_means self.new.region.now (used_in self.new.maps) (first_in self.new.maps)) result }
+        ensures kept { Kept (λ from h s. BitmapKeeps from.region.now (used_in from.maps) (first_in from.maps) h s.region.now (used_in s.maps) (first_in s.maps)) (after_allocate n result) self.old self.new }
+        ensures maps { Takes (used_in self.old.maps) (first_in self.old.maps) (used_in self.new.maps) (first_in self.new.maps) result }
+    {
         let (start, length) = self.offer(n)?;
         self.maps.mark(start / CELL, length / CELL);
         paint(self.region, start, length, 0);
         Ok((start, length))
     }
 
-    fn free(&mut self, a: u32) -> Result<(), Fault> {
+    fn free(&mut self, a: u32) -> Result<(), Fault>
+        ensures answer { MayFree (bitmap_means self.old.region.now (used_in self.old.maps) (first_in self.old.maps)).kind (bitmap_means self.old.region.now (used_in self.old.maps) (first_in self.old.maps)).live a result }
+        ensures after { Frees a (bitmap_means self.old.region.now (used_in self.old.maps) (first_in self.old.maps)) (bitmap_means self.new.region.now (used_in self.new.maps) (first_in self.new.maps)) result }
+        ensures kept { Kept (λ from h s. BitmapKeeps from.region.now (used_in from.maps) (first_in from.maps) h s.region.now (used_in s.maps) (first_in s.maps)) (after_free a result) self.old self.new }
+        ensures maps { Releases (cells_of (length self.old.region.now)) a (used_in self.old.maps) (first_in self.old.maps) (used_in self.new.maps) (first_in self.new.maps) result }
+    {
         let found = self.find(a);
         check_free(found, a, Kind::Bitmap)?;
         self.maps.unmark(a / CELL, begun_at(found, a) / CELL);

@@ -30,10 +30,12 @@ impl Maps {
     pub(crate) fn back(&self, i: u32) -> u32
         ensures { Back (λ x. used_in self.now x && not (first_in self.now x)) i result }
     {
-        (1..=i)
-            .rev()
-            .find(|cell| !self.continues(*cell))
-            .unwrap_or(0)
+        for before in (0..i).rev() {
+            if !self.continues(before + 1) {
+                return before + 1;
+            }
+        }
+        0
     }
 
     // The first cell from `i` on, of so many, that does not go on with the block before it.
@@ -42,9 +44,12 @@ impl Maps {
         ensures runs { Runs (goes_on (used_in self.now) (first_in self.now) cells) i result }
         ensures below { result ≤ cells }
     {
-        (i..cells)
-            .find(|cell| !self.continues(*cell))
-            .unwrap_or(cells)
+        for cell in i..cells {
+            if !self.continues(cell) {
+                return cell;
+            }
+        }
+        cells
     }
 
     // The lowest cell, of so many, from which `wanted` free ones can make a block, in one pass.
@@ -52,13 +57,12 @@ impl Maps {
         requires { 0 < wanted }
         ensures { LowestRun (used_in self.now) (first_in self.now) cells wanted result }
     {
-        // the cells from here to the one that is looked at are free
-        let mut start = 0;
+        // how many of the cells before the one that is looked at are free, in a row
+        let mut run = 0;
         for i in 0..cells {
             let end = i + 1;
-            if self.used.has(i) {
-                start = end;
-            } else if end - start >= wanted && (end == cells || !self.continues(end)) {
+            run = if self.used.has(i) { 0 } else { run + 1 };
+            if run >= wanted && !(end < cells && self.continues(end)) {
                 return Some(end - wanted);
             }
         }

@@ -40,6 +40,11 @@ pub record Shape (span p : ℕ) (c : Chunk) : Type 0 where
   pub eighth : c.0 % 8 ≡ 0
   pub state : (c.1 ≡ 0) ⊎ (c.1 ≡ 1)
 
+-- a chunk that was read, or none
+abbrev pub Inside : ℕ → ℕ → Option Chunk → Type 0
+Inside span p (Some c) = Shape span p c
+Inside span p None = Unit {0}
+
 -- a chunk and those behind it; the chunks end before what is no chunk
 abbrev pub then_chunks : Option Chunk → (Chunk → List Chunk) → List Chunk
 then_chunks (Some c) rest = c ∷ rest c

@@ -8,7 +8,7 @@ use Rattle.heap.specs.Meaning.{Block, Lawful, HeapFault, HeapKind, Covered}
 use Rattle.heap.specs.Roundings.{up8}
 use Rattle.heap.proofs.Offers.{admits, admits_large, admits_refused, raised_fault}
 use Rattle.region.specs.Bytes.{span_of}
-use Rattle.boundary_tag.specs.Chunks.{Chunk, Shape, tag_span, chunks, live_in, end_in, lowest_fit, part_of, offer_from, tag_offer, tag_means}
+use Rattle.boundary_tag.specs.Chunks.{Chunk, Shape, tag_span, walk, chunks, live_in, end_in, lowest_fit, part_of, offer_from, tag_offer, tag_means}
 use Rattle.boundary_tag.specs.Walks.{Found, Laid, laid_walk, laid_found, laid_apart}
 use Rattle.boundary_tag.specs.Lists.{FitCut, fit_cut, laid_behind, laid_before, end_eighth, live_around}
 use Rattle.std.proofs.lemmas.Bool.{cases_cond}
@@ -173,3 +173,14 @@ covered_span xs a c z k =
 
 pub covered_region : (xs : List ℕ) (a c : ℕ) → 0 < c → Covered (live_in (chunks xs) 0) a c → a + c ≤ length xs
 covered_region xs a c z k = let s = covered_span xs a c z k in let w = span_within (length xs) in omega arith
+
+-- where the lowest fit lies
+pub fit_within : (xs : List ℕ) (span need : ℕ) (k : ℕ × ℕ) → lowest_fit (walk xs span 0) 0 need ≡ Some k → (need ≤ k.1) × (k.0 + k.1 ≤ span)
+fit_within xs span need k e =
+    let f = fit_cut (walk xs span 0) 0 need k e in
+    let u = f.cut in
+    let laid : Laid span 0 (u.before ++ (u.here ∷ u.behind)) = subst (Laid span 0) u.whole (laid_walk xs span 0) in
+    let fits = (laid_behind span u.before (u.here ∷ u.behind) 0 laid).0.fits in
+    let at = u.at in
+    let size = f.size in
+    (f.enough, omega arith)

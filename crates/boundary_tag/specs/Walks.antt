@@ -1,6 +1,7 @@
 -- The chunks of a region: one more, and what is known of all.
 use Rattle.std.proofs.Common.{◌≡◌, ℕ, zero, suc, ◌+◌, ◌-◌, ◌%◌, ◌<◌, ◌≤◌, cond, eqb, ◌⊎◌, List, [], ◌∷◌, get_or, Some, None, Option, sym, refl, ap, ◌∙◌, subst, inl, inr, ⊎_elim, arith}
-use Rattle.boundary_tag.specs.Chunks.{Chunk, Shape, tag_at, shaped, closed, chunk_at, then_chunks, some_chunks, walk, live_in}
+use Rattle.heap.specs.Meaning.{In}
+use Rattle.boundary_tag.specs.Chunks.{Chunk, Shape, Inside, tag_at, shaped, closed, chunk_at, then_chunks, some_chunks, walk, live_in}
 use Rattle.boundary_tag.specs.Ends.{tag_same}
 use Rattle.std.proofs.lemmas.Bool.{cond-true, cond-false, eq-eqb, ne_eqb, cases_eq, cases_lt}
 
@@ -81,6 +82,10 @@ chunk_good xs span p c e s =
 pub chunk_none : (xs : List ℕ) (span p : ℕ) → span < p + 24 → chunk_at xs span p ≡ None
 unfolding chunk_at
 chunk_none xs span p h = ap (λ (o : Option Chunk). closed o (tag_at xs (p + ((tag_at xs p).0 - 8)))) (shaped_short span p (tag_at xs p).0 (tag_at xs p).1 h)
+
+pub inside_of : (xs : List ℕ) (span p : ℕ) (o : Option Chunk) → o ≡ chunk_at xs span p → Inside span p o
+inside_of xs span p None e = tt
+inside_of xs span p (Some c) e = shape_of xs span p c (sym e)
 
 -- a chunk depends on its own bytes alone
 pub chunk_same : (xs ys : List ℕ) (span p : ℕ) (c : Chunk) → ((x : ℕ) → p ≤ x → x < p + c.0 → get_or ys x 0 ≡ get_or xs x 0) → chunk_at xs span p ≡ Some c → chunk_at ys span p ≡ Some c
@@ -255,3 +260,64 @@ laid_apart span (c ∷ cs) p a b w l h k =
     omega arith)
     (cases_lt a (p + c.0 + 8)))
     (cases_eq a (p + 8))
+
+-- the blocks from p on are those of the chunks from p on
+abbrev pub From : (ℕ → ℕ) → List ℕ → ℕ → ℕ → Type 0
+From live xs span p = (x : ℕ) → p ≤ x → live x ≡ live_in (walk xs span p) p x
+
+module _ (live : ℕ → ℕ) (xs : List ℕ) (span p : ℕ) (f : From live xs span p) where
+  pub from_none : chunk_at xs span p ≡ None → (x : ℕ) → p ≤ x → live x ≡ 0
+  from_none e x h = f x h ∙ ap (λ (cs : List Chunk). live_in cs p x) (walk_end xs span p e)
+
+  module _ (c : Chunk) (e : chunk_at xs span p ≡ Some c) where
+    pub from_step : From live xs span (p + c.0)
+    from_step x h =
+        let o = (shape_of xs span p c e).some in
+        f x (omega arith) ∙ ap (λ (cs : List Chunk). live_in cs p x) (walk_step xs span p c e) ∙ live_other c (walk xs span (p + c.0)) p x (λ q. omega arith)
+
+    pub from_here : live (p + 8) ≡ cond (eqb c.1 1) (c.0 - 16) 0
+    from_here = f (p + 8) (omega arith) ∙ ap (λ (cs : List Chunk). live_in cs p (p + 8)) (walk_step xs span p c e) ∙ live_here c (walk xs span (p + c.0)) p (p + 8) refl
+
+    from_between : (x : ℕ) → p ≤ x → x < p + c.0 → (x ≡ p + 8 → ⊥) → live x ≡ 0
+    from_between x h l q =
+        f x h ∙ ap (λ (cs : List Chunk). live_in cs p x) (walk_step xs span p c e) ∙ live_other c (walk xs span (p + c.0)) p x q
+        ∙ live_low span (walk xs span (p + c.0)) (p + c.0) x (laid_walk xs span (p + c.0)) (omega arith)
+
+    pub from_live : c.1 ≡ 1 → live (p + 8) ≡ c.0 - 16
+    from_live s = from_here ∙ cond-true (eqb c.1 1) (c.0 - 16) 0 (eq-eqb c.1 1 s)
+
+    -- no block before the next chunk covers a, if none before p does and this one does not
+    pub past_step : (a : ℕ) → (In (p + 8) (cond (eqb c.1 1) (c.0 - 16) 0) a → ⊥) → ((x : ℕ) → x < p → In x (live x) a → ⊥) → (x : ℕ) → x < p + c.0 → In x (live x) a → ⊥
+    past_step a out old x l i =
+        ⊎_elim
+        (λ (q : x < p). old x q i)
+        (λ (q : p ≤ x). ⊎_elim
+        (λ (r : x ≡ p + 8).
+        let k : live x ≡ cond (eqb c.1 1) (c.0 - 16) 0 = ap live r ∙ from_here in
+        let lo = i.from in
+        let hi = i.below in
+        out (record { from = omega arith; below = omega arith }))
+        (λ (r : x ≡ p + 8 → ⊥). let z = from_between x q l r in let lo = i.from in let hi = i.below in omega arith)
+        (cases_eq x (p + 8)))
+        (cases_lt x p)
+
+pub out_past : (s l p a : ℕ) → p + 8 + l ≤ a → In (p + 8) (cond (eqb s 1) l 0) a → ⊥
+out_past s l p a h i = let b = i.below in let m = at_most s l in omega arith
+
+pub out_before : (s l p a : ℕ) → a < p + 8 → In (p + 8) (cond (eqb s 1) l 0) a → ⊥
+out_before s l p a h i = let b = i.from in omega arith
+
+pub out_free : (s l p a : ℕ) → (s ≡ 1 → ⊥) → In (p + 8) (cond (eqb s 1) l 0) a → ⊥
+out_free s l p a h i = let f = i.from in let b = i.below in let z = cond-false (eqb s 1) l 0 (ne_eqb s 1 h) in omega arith
+
+-- a chunk as it is read: its first tag, its shape, then its last tag
+pub read_some : (xs : List ℕ) (span p : ℕ) (first last c : Chunk) (r : Option Chunk) → first ≡ tag_at xs p → Some c ≡ shaped span p first.0 first.1 → last ≡ tag_at xs (p + (c.0 - 8)) → r ≡ closed (Some c) last → r ≡ chunk_at xs span p
+unfolding chunk_at
+read_some xs span p first last c r f s l e =
+    let i : tag_at xs p ≡ c = sym f ∙ shaped_is span p first.0 first.1 c (sym s) in
+    e ∙ ap (λ (t : Chunk). closed (Some c) t) (l ∙ ap (λ (z : Chunk). tag_at xs (p + (z.0 - 8))) (sym i))
+    ∙ ap (λ (o : Option Chunk). closed o (tag_at xs (p + ((tag_at xs p).0 - 8)))) (s ∙ ap (λ (z : Chunk). shaped span p z.0 z.1) f)
+
+pub read_none : (xs : List ℕ) (span p : ℕ) (first : Chunk) → first ≡ tag_at xs p → None ≡ shaped span p first.0 first.1 → None ≡ chunk_at xs span p
+unfolding chunk_at
+read_none xs span p first f s = ap (λ (o : Option Chunk). closed o (tag_at xs (p + ((tag_at xs p).0 - 8)))) (s ∙ ap (λ (z : Chunk). shaped span p z.0 z.1) f)

@@ -1,8 +1,10 @@
 // A boundary tag heap, after Knuth: chunks with a tag at either end, the lowest that fits, and neighbours joined when one is freed.
 #![tactic(auto)]
 
-ghost use Rattle.heap.specs.Meaning.{NothingLive};
-ghost use Rattle.boundary_tag.specs.Chunks.{tag_means, TagKeeps, Fresh};
+ghost use Rattle.std.specs.Prelude.{◌≡◌};
+ghost use Rattle.heap.specs.Histories.{after_allocate, after_free, after_fill, Kept};
+ghost use Rattle.heap.specs.Meaning.{NothingLive, MayFree, MayFill, Allocates, Frees, Fills};
+ghost use Rattle.boundary_tag.specs.Chunks.{tag_means, TagKeeps, Fresh, Grants, Releases, Paints};
 ghost use Rattle.boundary_tag.specs.Laws.{tag_lawful};
 ghost use Rattle.boundary_tag.specs.Keeping.{tag_begins};
 
@@ -52,6 +54,7 @@ impl<'r> Meant for BoundaryTag<'r> {
     ghost begins = { λ s. tag_begins s.region.now };
 }
 
+// What every heap owes is said again where a call says more: `chunks` is the list of chunks that it leaves, whatever the region held. A refused call writes nothing.
 impl<'r> Heap for BoundaryTag<'r> {
     fn span(&self) -> u32 {
         usable(self.region)
@@ -73,19 +76,34 @@ impl<'r> Heap for BoundaryTag<'r> {
         Ok(self.region[a as usize])
     }
 
-    fn allocate(&mut self, n: u32) -> Result<(u32, u32), Fault> {
+    fn allocate(&mut self, n: u32) -> Result<(u32, u32), Fault>
+        ensures answer { result ≡ (tag_means self.old.region.now).offer n }
+        ensures after { Allocates (tag_means self.old.region.now) (tag_means self.new.region.now) result }
+        ensures kept { Kept (λ from h s. TagKeeps from.region.now h s.region.now) (after_allocate n result) self.old self.new }
+        ensures chunks { Grants self.old.region.now self.new.region.now result }
+    {
         let offer = self.room(n)?;
         self.grant(offer);
         Ok(offer.block())
     }
 
-    fn free(&mut self, a: u32) -> Result<(), Fault> {
+    fn free(&mut self, a: u32) -> Result<(), Fault>
+        ensures answer { MayFree (tag_means self.old.region.now).kind (tag_means self.old.region.now).live a result }
+        ensures after { Frees a (tag_means self.old.region.now) (tag_means self.new.region.now) result }
+        ensures kept { Kept (λ from h s. TagKeeps from.region.now h s.region.now) (after_free a result) self.old self.new }
+        ensures chunks { Releases a self.old.region.now self.new.region.now result }
+    {
         check_free(self.find(a), a, Kind::BoundaryTag)?;
         self.joined(a).write(self.region);
         Ok(())
     }
 
-    fn fill(&mut self, a: u32, c: u32, b: u8) -> Result<(), Fault> {
+    fn fill(&mut self, a: u32, c: u32, b: u8) -> Result<(), Fault>
+        ensures answer { MayFill (tag_means self.old.region.now).kind (tag_means self.old.region.now).live a c result }
+        ensures after { Fills a c b (tag_means self.old.region.now) (tag_means self.new.region.now) result }
+        ensures kept { Kept (λ from h s. TagKeeps from.region.now h s.region.now) (after_fill a c b result) self.old self.new }
+        ensures chunks { Paints a c b self.old.region.now self.new.region.now result }
+    {
         check_fill(self.find(a), a, c, Kind::BoundaryTag)?;
         paint(self.region, a, c, b);
         Ok(())

@@ -2,7 +2,7 @@
 use Rattle.std.specs.Prelude.{◌≡◌, ℕ, zero, suc, ◌+◌, ◌-◌, ◌%◌, ◌<◌, ◌≤◌, min, Bool, true, false, cond, ◌⊎◌, List, [], ◌∷◌, ◌++◌, length, Some, None, Ok, Err, Option, Result, ◌==◌, nat_le, slice_index}
 use Rattle.heap.specs.declared.fault.Fault.{Fault}
 use Rattle.heap.specs.declared.fault.Kind.TheVariants.{Bump as BumpK}
-use Rattle.heap.specs.declared.fault.Cause.TheVariants.{Full}
+use Rattle.heap.specs.declared.fault.Cause.TheVariants.{Full, NotLive}
 use Rattle.heap.specs.Faults.{raised, and_then}
 use Rattle.heap.specs.Checks.{admitted}
 use Rattle.heap.specs.Meaning.{Meaning, Block, In, Covered}
@@ -30,6 +30,11 @@ pub record Shape (bound p : ℕ) (c : Header) : Type 0 where
   pub some : 8 ≤ c.0
   pub eighth : c.0 % 8 ≡ 0
   pub state : (c.1 ≡ 1) ⊎ (c.1 ≡ 2)
+
+-- a header that was read, or none
+abbrev pub Inside : ℕ → ℕ → Option Header → Type 0
+Inside bound p (Some c) = Shape bound p c
+Inside bound p None = Unit {0}
 
 -- a header and those behind it; the blocks end before what is no header
 abbrev pub then_headers : Option Header → (Header → List Header) → List Header
@@ -167,3 +172,18 @@ pub record Paint (a c v cursor : ℕ) (xs ys : List ℕ) : Type 0 where
   pub covered : Covered (live_in (table xs cursor) 0) a c
   pub painted : Painted a c v xs ys
   pub table : table ys cursor ≡ table xs cursor
+
+-- an allocate by its answer, which also tells the cursor's next place: a refused one changes no byte
+abbrev pub Grants : ℕ → ℕ → List ℕ → List ℕ → Result Block Fault → Type 0
+Grants cursor next xs ys (Ok b) = (next ≡ b.0 + b.1) × Grant cursor b xs ys
+Grants cursor next xs ys (Err f) = (next ≡ cursor) × (ys ≡ xs)
+
+-- a free by its answer
+abbrev pub Strikes : ℕ → ℕ → ℕ → List ℕ → List ℕ → Result (Unit {0}) Fault → Type 0
+Strikes a cursor next xs ys (Ok t) = Strike a cursor next xs ys
+Strikes a cursor next xs ys (Err f) = (live_in (table xs cursor) 0 a ≡ 0) × (f ≡ raised NotLive BumpK a) × (next ≡ cursor) × (ys ≡ xs)
+
+-- a fill by its answer
+abbrev pub Paints : ℕ → ℕ → ℕ → ℕ → ℕ → List ℕ → List ℕ → Result (Unit {0}) Fault → Type 0
+Paints a c v cursor next xs ys (Ok t) = (next ≡ cursor) × Paint a c v cursor xs ys
+Paints a c v cursor next xs ys (Err f) = (next ≡ cursor) × (ys ≡ xs)

@@ -1,7 +1,8 @@
 -- The headers of a bump heap's region: one more, and what is known of all.
 use Rattle.std.proofs.Common.{◌≡◌, ℕ, zero, suc, ◌+◌, ◌-◌, ◌%◌, ◌<◌, ◌≤◌, cond, eqb, ◌⊎◌, List, [], ◌∷◌, Some, None, Option, sym, refl, ap, ◌∙◌, subst, inl, inr, ⊎_elim, arith}
+use Rattle.heap.specs.Meaning.{In}
 use Rattle.region.specs.Bytes.{word_at}
-use Rattle.bump.specs.Table.{Header, Shape, shaped, header_at, then_headers, headers, walk, live_in, end_in}
+use Rattle.bump.specs.Table.{Header, Shape, Inside, shaped, header_at, then_headers, headers, walk, live_in, end_in}
 use Rattle.std.proofs.lemmas.Bool.{cond-true, cond-false, eq-eqb, ne_eqb, cases_eq, cases_lt}
 
 pub option_cases : (o : Option Header) → (o ≡ None) ⊎ ((c : Header) × (o ≡ Some c))
@@ -180,3 +181,56 @@ end_from (c ∷ cs) p = let i = end_from cs (p + 8 + c.0) in omega arith
 pub end_eighth : (bound : ℕ) (cs : List Header) (p : ℕ) → Laid bound p cs → p % 8 ≡ 0 → end_in cs p % 8 ≡ 0
 end_eighth bound [] p w h = h
 end_eighth bound (c ∷ cs) p w h = let e = w.0.eighth in end_eighth bound cs (p + 8 + c.0) w.1 (omega arith)
+
+pub inside_of : (xs : List ℕ) (bound p : ℕ) (o : Option Header) → o ≡ header_at xs bound p → Inside bound p o
+inside_of xs bound p None e = tt
+inside_of xs bound p (Some c) e = shape_of xs bound p c (sym e)
+
+-- the blocks from p on are those of the headers from p on
+abbrev pub From : (ℕ → ℕ) → List ℕ → ℕ → ℕ → Type 0
+From live xs bound p = (x : ℕ) → p ≤ x → live x ≡ live_in (walk xs bound p) p x
+
+pub from_step : (live : ℕ → ℕ) (xs : List ℕ) (bound p : ℕ) (c : Header) → header_at xs bound p ≡ Some c → From live xs bound p → From live xs bound (p + 8 + c.0)
+from_step live xs bound p c e f x h =
+    let o = (shape_of xs bound p c e).some in
+    f x (omega arith) ∙ ap (λ (cs : List Header). live_in cs p x) (walk_step xs bound p c e) ∙ live_other c (walk xs bound (p + 8 + c.0)) p x (λ q. omega arith)
+
+pub from_here : (live : ℕ → ℕ) (xs : List ℕ) (bound p : ℕ) (c : Header) → header_at xs bound p ≡ Some c → From live xs bound p → live (p + 8) ≡ cond (eqb c.1 1) c.0 0
+from_here live xs bound p c e f =
+    f (p + 8) (omega arith) ∙ ap (λ (cs : List Header). live_in cs p (p + 8)) (walk_step xs bound p c e) ∙ live_here c (walk xs bound (p + 8 + c.0)) p (p + 8) refl
+
+pub from_between : (live : ℕ → ℕ) (xs : List ℕ) (bound p : ℕ) (c : Header) → header_at xs bound p ≡ Some c → From live xs bound p → (x : ℕ) → p ≤ x → x < p + 8 + c.0 → (x ≡ p + 8 → ⊥) → live x ≡ 0
+from_between live xs bound p c e f x h l q =
+    f x h ∙ ap (λ (cs : List Header). live_in cs p x) (walk_step xs bound p c e) ∙ live_other c (walk xs bound (p + 8 + c.0)) p x q
+    ∙ live_low (walk xs bound (p + 8 + c.0)) (p + 8 + c.0) x (omega arith)
+
+pub from_none : (live : ℕ → ℕ) (xs : List ℕ) (bound p : ℕ) → header_at xs bound p ≡ None → From live xs bound p → (x : ℕ) → p ≤ x → live x ≡ 0
+from_none live xs bound p e f x h = f x h ∙ ap (λ (cs : List Header). live_in cs p x) (walk_end xs bound p e)
+
+pub from_live : (live : ℕ → ℕ) (xs : List ℕ) (bound p : ℕ) (c : Header) → header_at xs bound p ≡ Some c → From live xs bound p → c.1 ≡ 1 → live (p + 8) ≡ c.0
+from_live live xs bound p c e f s = from_here live xs bound p c e f ∙ cond-true (eqb c.1 1) c.0 0 (eq-eqb c.1 1 s)
+
+-- no block before the next header covers a, if none before p does and this one does not
+pub past_step : (live : ℕ → ℕ) (xs : List ℕ) (bound p a : ℕ) (c : Header) → header_at xs bound p ≡ Some c → From live xs bound p → (In (p + 8) (cond (eqb c.1 1) c.0 0) a → ⊥)
+    → ((x : ℕ) → x < p → In x (live x) a → ⊥) → (x : ℕ) → x < p + 8 + c.0 → In x (live x) a → ⊥
+past_step live xs bound p a c e f out old x l i =
+    ⊎_elim
+    (λ (q : x < p). old x q i)
+    (λ (q : p ≤ x). ⊎_elim
+    (λ (r : x ≡ p + 8).
+    let k : live x ≡ cond (eqb c.1 1) c.0 0 = ap live r ∙ from_here live xs bound p c e f in
+    let lo = i.from in
+    let hi = i.below in
+    out (record { from = omega arith; below = omega arith }))
+    (λ (r : x ≡ p + 8 → ⊥). let z = from_between live xs bound p c e f x q l r in let lo = i.from in let hi = i.below in omega arith)
+    (cases_eq x (p + 8)))
+    (cases_lt x p)
+
+pub out_past : (s l p a : ℕ) → p + 8 + l ≤ a → In (p + 8) (cond (eqb s 1) l 0) a → ⊥
+out_past s l p a h i = let b = i.below in let m = at_most s l in omega arith
+
+pub out_before : (s l p a : ℕ) → a < p + 8 → In (p + 8) (cond (eqb s 1) l 0) a → ⊥
+out_before s l p a h i = let b = i.from in omega arith
+
+pub out_ended : (s l p a : ℕ) → (s ≡ 1 → ⊥) → In (p + 8) (cond (eqb s 1) l 0) a → ⊥
+out_ended s l p a h i = let f = i.from in let b = i.below in let z = cond-false (eqb s 1) l 0 (ne_eqb s 1 h) in omega arith

@@ -2,9 +2,10 @@
 #![tactic(auto)]
 
 ghost use Rattle.std.specs.Prelude.{◌≡◌, ◌+◌, ◌<◌, ◌≤◌, not, length};
-ghost use Rattle.heap.specs.Meaning.{NothingLive};
+ghost use Rattle.heap.specs.Histories.{after_allocate, after_free, after_fill, Kept};
+ghost use Rattle.heap.specs.Meaning.{NothingLive, MayFree, MayFill, Allocates, Frees, Fills};
 ghost use Rattle.region.specs.Bytes.{span_of};
-ghost use Rattle.bump.specs.Table.{table, placed, live_in, end_in, none_live, bump_offer, bump_means, Headed, Strike, BumpKeeps};
+ghost use Rattle.bump.specs.Table.{table, placed, live_in, end_in, none_live, bump_offer, bump_means, Headed, Strike, Grants, Strikes, Paints, BumpKeeps};
 ghost use Rattle.bump.specs.Laws.{bump_lawful, bump_begins};
 ghost use Rattle.bump.specs.Headers.{left};
 
@@ -99,6 +100,7 @@ impl<'r> Meant for Bump<'r> {
     ghost begins = { λ s. bump_begins s.region.now s.cursor };
 }
 
+// What every heap owes is said again where a call says more: `table` is what it leaves of headers and cursor, whatever the region held. A refused call writes nothing.
 impl<'r> Heap for Bump<'r> {
     fn span(&self) -> u32 {
         used_span(self.region)
@@ -121,19 +123,34 @@ impl<'r> Heap for Bump<'r> {
         Ok(self.region[a as usize])
     }
 
-    fn allocate(&mut self, n: u32) -> Result<(u32, u32), Fault> {
+    fn allocate(&mut self, n: u32) -> Result<(u32, u32), Fault>
+        ensures answer { result ≡ (bump_means self.old.region.now self.old.cursor).offer n }
+        ensures after { Allocates (bump_means self.old.region.now self.old.cursor) (bump_means self.new.region.now self.new.cursor) result }
+        ensures kept { Kept (λ from h s. BumpKeeps from.region.now from.cursor h s.region.now s.cursor) (after_allocate n result) self.old self.new }
+        ensures table { Grants self.old.cursor self.new.cursor self.old.region.now self.new.region.now result }
+    {
         let block = self.offer(n)?;
         self.grant(block.1);
         Ok(block)
     }
 
-    fn free(&mut self, a: u32) -> Result<(), Fault> {
+    fn free(&mut self, a: u32) -> Result<(), Fault>
+        ensures answer { MayFree (bump_means self.old.region.now self.old.cursor).kind (bump_means self.old.region.now self.old.cursor).live a result }
+        ensures after { Frees a (bump_means self.old.region.now self.old.cursor) (bump_means self.new.region.now self.new.cursor) result }
+        ensures kept { Kept (λ from h s. BumpKeeps from.region.now from.cursor h s.region.now s.cursor) (after_free a result) self.old self.new }
+        ensures table { Strikes a self.old.cursor self.new.cursor self.old.region.now self.new.region.now result }
+    {
         check_free(self.find(a), a, Kind::Bump)?;
         self.strike(a);
         Ok(())
     }
 
-    fn fill(&mut self, a: u32, c: u32, b: u8) -> Result<(), Fault> {
+    fn fill(&mut self, a: u32, c: u32, b: u8) -> Result<(), Fault>
+        ensures answer { MayFill (bump_means self.old.region.now self.old.cursor).kind (bump_means self.old.region.now self.old.cursor).live a c result }
+        ensures after { Fills a c b (bump_means self.old.region.now self.old.cursor) (bump_means self.new.region.now self.new.cursor) result }
+        ensures kept { Kept (λ from h s. BumpKeeps from.region.now from.cursor h s.region.now s.cursor) (after_fill a c b result) self.old self.new }
+        ensures table { Paints a c b self.old.cursor self.new.cursor self.old.region.now self.new.region.now result }
+    {
         check_fill(self.find(a), a, c, Kind::Bump)?;
         paint(self.region, a, c, b);
         Ok(())

@@ -1,5 +1,5 @@
 -- Lists of addresses: one more at the end, one taken out, a part from the start.
-use Rattle.std.specs.Prelude.{◌≡◌, ℕ, ◌+◌, ◌<◌, true, false, cond, List, [], ◌∷◌, ◌++◌, length, take, drop, ◌==◌, ◌≢◌, slice_index, refl}
+use Rattle.std.specs.Prelude.{◌≡◌, ℕ, ◌+◌, ◌<◌, ◌≤◌, true, false, cond, List, [], ◌∷◌, ◌++◌, length, take, drop, ◌==◌, ◌≢◌, slice_index, refl}
 use Rattle.std.proofs.Common.{sym, ◌∙◌, ap, take-append-drop, take-take, arith}
 use Rattle.std.proofs.Math.Seq.{take-length}
 use Rattle.free_list.specs.Holdings.{among, distinct, without}
@@ -9,6 +9,10 @@ use Rattle.std.proofs.lemmas.Bool.{cond-true, eq-eqb, both_ways}
 pub among_push : (a x : ℕ) (xs : List ℕ) → among a (xs ++ (x ∷ [])) ≡ cond (a == x) true (among a xs)
 among_push a x [] = refl
 among_push a x (y ∷ ys) = let i = among_push a x ys in grind arith
+
+pub without_push : (a x : ℕ) (xs : List ℕ) → without a (xs ++ (x ∷ [])) ≡ cond (a == x) (without a xs) (without a xs ++ (x ∷ []))
+without_push a x [] = refl
+without_push a x (y ∷ ys) = let i = without_push a x ys in grind arith
 
 pub distinct_push : (a : ℕ) (xs : List ℕ) → distinct xs ≡ true → among a xs ≡ false → distinct (xs ++ (a ∷ [])) ≡ true
 distinct_push a [] d f = refl
@@ -37,6 +41,10 @@ pub among_others : (a x : ℕ) (xs : List ℕ) → (x ≢ a) → among x (withou
 among_others a x [] ne = refl
 among_others a x (y ∷ ys) ne = let i = among_others a x ys ne in grind arith
 
+pub without_shorter : (a : ℕ) (xs : List ℕ) → length (without a xs) ≤ length xs
+without_shorter a [] = omega arith
+without_shorter a (y ∷ ys) = let i = without_shorter a ys in grind arith
+
 -- the address at i is not among those before it
 pub fresh_at : (xs : List ℕ) (n i : ℕ) → distinct (take n xs) ≡ true → i < n → i < length xs → among (slice_index xs i) (take i xs) ≡ false
 fresh_at xs n i d l k =
@@ -46,6 +54,9 @@ fresh_at xs n i d l k =
 
 pub among_more : (a : ℕ) (xs : List ℕ) (i : ℕ) → i < length xs → among a (take (i + 1) xs) ≡ cond (a == slice_index xs i) true (among a (take i xs))
 among_more a xs i l = ap (among a) (take_more xs i 0 l) ∙ among_push a (slice_index xs i) (take i xs)
+
+pub without_more : (a : ℕ) (xs : List ℕ) (i : ℕ) → i < length xs → without a (take (i + 1) xs) ≡ cond (a == slice_index xs i) (without a (take i xs)) (without a (take i xs) ++ (slice_index xs i ∷ []))
+without_more a xs i l = ap (without a) (take_more xs i 0 l) ∙ without_push a (slice_index xs i) (take i xs)
 
 -- what stands below the end of a part from the start is among it
 pub among_at : (xs : List ℕ) (n i : ℕ) → i < n → i < length xs → among (slice_index xs i) (take n xs) ≡ true

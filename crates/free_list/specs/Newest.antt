@@ -1,10 +1,11 @@
 -- The newest held block that is long enough.
-use Rattle.std.specs.Prelude.{◌≡◌, ℕ, ◌≤◌, Bool, true, false, cond, List, [], ◌∷◌, ◌++◌, Some, None, Option, ◌==◌, nat_le, refl}
+use Rattle.std.specs.Prelude.{◌≡◌, ℕ, ◌+◌, ◌<◌, ◌≤◌, Bool, true, false, cond, List, [], ◌∷◌, ◌++◌, length, take, Some, None, Option, ◌==◌, nat_le, slice_index, refl}
 use Rattle.std.proofs.Common.{◌∙◌, ap, subst, arith}
 use Rattle.heap.specs.Meaning.{Block}
 use Rattle.free_list.specs.Holdings.{among}
 use Rattle.free_list.specs.FreeLists.{newest, or_else}
-use Rattle.std.proofs.lemmas.Bool.{cond-true, leb-true, eq-eqb}
+use Rattle.std.proofs.lemmas.List.{take_more}
+use Rattle.std.proofs.lemmas.Bool.{cond-true, cond-false, le-leb, lt-leb, leb-true, eq-eqb}
 
 or_else_cond : (t : Bool) (b : Block) (o p : Option Block) → or_else (cond t (Some b) o) p ≡ cond t (Some b) (or_else o p)
 or_else_cond true b o p = refl
@@ -15,6 +16,14 @@ newest_push live k [] a = refl
 newest_push live k (x ∷ xs) a =
     let last : Option Block = cond (nat_le k (live x)) (Some (x, live x)) None in
     ap (λ (o : Option Block). or_else o last) (newest_push live k xs a) ∙ or_else_cond (nat_le k (live a)) (a, live a) (newest live k xs) last
+
+-- the last address of a part from the start is long enough
+pub newest_here : (live : ℕ → ℕ) (k : ℕ) (xs : List ℕ) (i : ℕ) → i < length xs → k ≤ live (slice_index xs i) → newest live k (take (i + 1) xs) ≡ Some (slice_index xs i, live (slice_index xs i))
+newest_here live k xs i l h = ap (newest live k) (take_more xs i 0 l) ∙ newest_push live k (take i xs) (slice_index xs i) ∙ cond-true (nat_le k (live (slice_index xs i))) _ _ (le-leb k (live (slice_index xs i)) h)
+
+-- or it is not
+pub newest_before : (live : ℕ → ℕ) (k : ℕ) (xs : List ℕ) (i : ℕ) → i < length xs → live (slice_index xs i) < k → newest live k (take (i + 1) xs) ≡ newest live k (take i xs)
+newest_before live k xs i l h = ap (newest live k) (take_more xs i 0 l) ∙ newest_push live k (take i xs) (slice_index xs i) ∙ cond-false (nat_le k (live (slice_index xs i))) _ _ (lt-leb k (live (slice_index xs i)) h)
 
 -- what holds of the newest block that is long enough
 pub record Serves (live : ℕ → ℕ) (k : ℕ) (held : List ℕ) (b : Block) : Type 0 where

@@ -11,6 +11,7 @@ const MOST: usize = 16;
 #[derive(Drop)]
 pub(crate) struct Held {
     addresses: ArrayVec<u32, MOST>,
+    ghost few: { length addresses.items ≤ 16 },
     ghost apart: { distinct addresses.items ≡ true },
 }
 

@@ -1,7 +1,7 @@
 -- The book and the live blocks agree after each accepted call.
 use Rattle.std.proofs.Common.{◌≡◌, ℕ, ◌+◌, ◌<◌, ◌≤◌, cond, eqb, ◌⊎◌, [], ◌∷◌, Ok, Err, Result, sym, ap, ◌∙◌, subst, inl, inr, ⊎_elim, arith}
 use Rattle.heap.specs.declared.fault.Fault.{Fault}
-use Rattle.heap.specs.Meaning.{Meaning, Block, Lawful, In, Sits, Stays, Granted, Freed, Filled, Allocates, Frees, Fills, NothingLive}
+use Rattle.heap.specs.Meaning.{Meaning, Block, Lawful, In, Sits, Apart, Stays, Granted, Freed, Filled, Allocates, Frees, Fills, NothingLive}
 use Rattle.heap.specs.Histories.{History, granted, freed, filled, relieved, Booked, length_at, byte_at, over, after_allocate, after_free, after_fill}
 use Rattle.heap.specs.Runs.{Upheld}
 use Rattle.std.proofs.lemmas.Bool.{cond-false, ne_eqb, cases_eq, cases_lt}
@@ -23,6 +23,11 @@ place a c x =
 pub outside : (a c x : ℕ) → (x < a) ⊎ (a + c ≤ x) → In a c x → ⊥
 outside a c x (inl h) i = let p = i.from in omega arith
 outside a c x (inr h) i = let p = i.below in omega arith
+
+-- an address in a block that is apart from another is outside the other
+pub apart_out : (b d a c x : ℕ) → Apart (b, d) (a, c) → In a c x → (x < b) ⊎ (b + d ≤ x)
+apart_out b d a c x (inl h) i = let p = i.from in inr (omega arith)
+apart_out b d a c x (inr h) i = let p = i.below in inl (omega arith)
 
 pub booked_stays : (h : History) (m m' : Meaning) → Stays m m' → Booked h m → Booked h m'
 booked_stays h m m' s k = record {

@@ -7,7 +7,7 @@ use Rattle.heap.specs.declared.fault.Cause.{Cause}
 use Rattle.heap.specs.declared.fault.Cause.TheVariants.{Zero, TooLarge, Outside}
 use Rattle.heap.specs.Faults.{raised, handed_up, up, own, and_then}
 use Rattle.heap.specs.Checks.{admitted}
-use Rattle.heap.specs.Meaning.{Meaning, Block, Lawful, HeapKind, HeapFault, OfferCause, Covered, Gets, MayFree, MayFill, with_offers}
+use Rattle.heap.specs.Meaning.{Meaning, Block, Lawful, HeapKind, HeapFault, OfferCause, Covered, Stays, Same, SameOffers, Granted, Freed, Gets, MayFree, MayFill, Frees, Fills, with_offers}
 use Rattle.heap.specs.Histories.{History, after_free, after_fill}
 use Rattle.std.proofs.lemmas.Bool.{cases_eq, cases_lt}
 
@@ -92,6 +92,29 @@ own_after_free k p a (Err f) h = refl
 pub own_after_fill : (k : Kind) (p a c v : ℕ) (r : Result (Unit {0}) Fault) (h : History) → after_fill a c v (own k p r) h ≡ after_fill a c v r h
 own_after_fill k p a c v (Ok t) h = refl
 own_after_fill k p a c v (Err f) h = refl
+
+-- The calls of a layer that changes offers alone, from those below.
+module _ (k : Kind) (o o' : ℕ → Result Block Fault) (m m' : Meaning) where
+  pub stays_with : Stays m m' → Stays (with_offers k o m) (with_offers k o' m')
+  stays_with s = record { kind = refl; span = s.span; live = s.live; byte = s.byte }
+
+  pub granted_with : (a c : ℕ) → Granted a c m m' → Granted a c (with_offers k o m) (with_offers k o' m')
+  granted_with a c s = record { kind = refl; span = s.span; live = s.live; clear = s.clear; byte = s.byte }
+
+  pub freed_with : (a : ℕ) → Freed a m m' → Freed a (with_offers k o m) (with_offers k o' m')
+  freed_with a s = record { kind = refl; span = s.span; live = s.live; byte = s.byte }
+
+  module _ (same : SameOffers m m' → (n : ℕ) → o' n ≡ o n) where
+    pub same_with : Same m m' → Same (with_offers k o m) (with_offers k o' m')
+    same_with s = (stays_with s.0, same s.1)
+
+    pub frees_with : (a : ℕ) (r : Result (Unit {0}) Fault) → Frees a m m' r → Frees a (with_offers k o m) (with_offers k o' m') (own k a r)
+    frees_with a (Ok t) s = freed_with a s
+    frees_with a (Err f) s = same_with s
+
+    pub fills_with : (a c v : ℕ) (r : Result (Unit {0}) Fault) → Fills a c v m m' r → Fills a c v (with_offers k o m) (with_offers k o' m') (own k a r)
+    fills_with a c v (Ok t) s = record { kind = refl; span = s.span; live = s.live; set = s.set; byte = s.byte; offers = same s.offers }
+    fills_with a c v (Err f) s = same_with s
 
 -- its law: each of its offers is one of below, for a size at least as large
 pub record From (m : Meaning) (n : ℕ) (b : Block) : Type 0 where

@@ -503,3 +503,20 @@ module _ (m m₁ m₂ m₃ : Meaning) (n : ℕ) (b : Block) (r : Result Block Fa
       ∙ ap (λ (x : ℕ). filled x 8 90 ∷ (filled b.0 8 90 ∷ (granted (n + 16) b.0 b.1 ∷ sent_affixed h))) e₁
       ∙ ap (λ (x : ℕ). filled (b.0 + 8 + (b.1 - 16)) 8 90 ∷ (filled x 8 90 ∷ (granted (n + 16) x b.1 ∷ sent_affixed h))) e₂
       ∙ ap (λ (x : ℕ). filled (b.0 + 8 + (b.1 - 16)) 8 90 ∷ (filled (b.0 + 8 - 8) 8 90 ∷ (granted (n + 16) (b.0 + 8 - 8) x ∷ sent_affixed h))) e₃
+
+-- both marks of a block lie in the block below, well within the largest span
+pub head_inside : (m : Meaning) (a : ℕ) → 0 < affix_live m.live a → Covered m.live (a - 8) 8
+head_inside m a h = let o = outer m.live a h in let l = o.long in record { start = a - 8; from = omega arith; to = omega arith }
+
+pub tail_inside : (m : Meaning) (a : ℕ) → 0 < affix_live m.live a → Covered m.live (a + affix_live m.live a) 8
+tail_inside m a h = let o = outer m.live a h in let low = o.low in let l = o.long in let is = o.is in record { start = a - 8; from = omega arith; to = omega arith }
+
+pub tail_ends : (m : Meaning) → Lawful m → (a : ℕ) → 0 < affix_live m.live a → a + affix_live m.live a + 8 ≤ 1048576
+tail_ends m w a h =
+    let o = outer m.live a h in
+    let low = o.low in
+    let l = o.long in
+    let is = o.is in
+    let s = (w.sits (a - 8) (omega arith)).within in
+    let p = w.span_bound in
+    omega arith

@@ -1,13 +1,14 @@
 -- A quota's law, and its calls from those below, by cases on the answer.
-use Rattle.std.specs.Prelude.{◌≡◌, ℕ, ◌+◌, ◌≤◌, Ok, Err, Result}
+use Rattle.std.specs.Prelude.{◌≡◌, ℕ, ◌+◌, ◌≤◌, Ok, Err, Result, refl}
 use Rattle.std.proofs.Common.{sym, subst, lit≤, arith}
 use Rattle.heap.specs.declared.fault.Fault.{Fault}
 use Rattle.heap.specs.declared.fault.Kind.TheVariants.{Quota as QuotaK}
 use Rattle.heap.specs.declared.fault.Cause.TheVariants.{OverQuota}
-use Rattle.heap.specs.Faults.{raised, up, and_then}
-use Rattle.heap.specs.Meaning.{Meaning, Block, Lawful, HeapFault, MayFree, Allocates, Frees, Fills}
+use Rattle.heap.specs.Faults.{raised, up, own, and_then}
+use Rattle.heap.specs.Checks.{admitted}
+use Rattle.heap.specs.Meaning.{Meaning, Block, Lawful, HeapFault, SameOffers, Same, MayFree, Allocates, Frees, Fills}
 use Rattle.heap.proofs.Lawful.{offered_free, offered_below}
-use Rattle.heap.proofs.Offers.{admits, up_fault, raised_fault, lawful_with}
+use Rattle.heap.proofs.Offers.{admits, up_fault, raised_fault, lawful_with, and_then_same, granted_with, freed_with, same_with, fills_with}
 use Rattle.layers.specs.Quotas.{within_limit, quota_offer, rationed, Charges, Credits, Paid}
 use Rattle.layers.specs.Accounts.{granted_paid, freed_paid, stays_paid, stays_paid_live}
 
@@ -30,7 +31,24 @@ rationed_lawful l a m w =
     (λ n b p. record { size = n; least = omega arith; offer = passes l a n (m.offer n) b p.answer })
     (λ n g e. refusal l a n (m.offer n) g (w.refused n) e)
 
+-- offers depend on the limit, the account and the offers below
+same_offers : (l l' acc acc' : ℕ) (m m' : Meaning) → l' ≡ l → acc' ≡ acc → SameOffers m m' → SameOffers (rationed l acc m) (rationed l' acc' m')
+same_offers l l' acc acc' m m' el ea s n =
+    and_then_same (admitted 32768 QuotaK n) (λ q. and_then (up (m'.offer q)) (within_limit l' acc' q)) (λ q. and_then (up (m.offer q)) (within_limit l acc q))
+    (λ q. let o = s q in cc)
+
 module _ (l l' acc acc' : ℕ) (m m' : Meaning) (el : l' ≡ l) where
+  pub rationed_same : acc' ≡ acc → Same m m' → Same (rationed l acc m) (rationed l' acc' m')
+  rationed_same ea s = same_with QuotaK (quota_offer l acc m) (quota_offer l' acc' m') m m' (same_offers l l' acc acc' m m' el ea) s
+
+  pub rationed_allocates : (r : Result Block Fault) → Charges acc acc' r → Allocates m m' r → Allocates (rationed l acc m) (rationed l' acc' m') r
+  rationed_allocates (Ok b) ea s = granted_with QuotaK (quota_offer l acc m) (quota_offer l' acc' m') m m' b.0 b.1 s
+  rationed_allocates (Err f) ea s = rationed_same ea s
+
+  pub rationed_frees : (a : ℕ) (r : Result (Unit {0}) Fault) → Credits acc acc' (m.live a) r → Frees a m m' r → Frees a (rationed l acc m) (rationed l' acc' m') (own QuotaK a r)
+  rationed_frees a (Ok t) ea s = freed_with QuotaK (quota_offer l acc m) (quota_offer l' acc' m') m m' a s
+  rationed_frees a (Err f) ea s = rationed_same ea s
+
   pub paid_granted : (n : ℕ) (r : Result Block Fault) → Lawful m → r ≡ quota_offer l acc m n → Charges acc acc' r → Allocates m m' r → Paid l acc m → Paid l' acc' m'
   paid_granted n (Ok b) w e ea s p =
       let q = (admits 32768 QuotaK (λ z. and_then (up (m.offer z)) (within_limit l acc z)) n b (sym e)).answer in
@@ -61,3 +79,6 @@ module _ (l l' acc acc' : ℕ) (m m' : Meaning) (el : l' ≡ l) where
 pub paid_filled : (l acc a c v : ℕ) (m m' : Meaning) (r : Result (Unit {0}) Fault) → Fills a c v m m' r → Paid l acc m → Paid l acc m'
 paid_filled l acc a c v m m' (Ok t) s p = stays_paid_live l acc m m' s.span s.live p
 paid_filled l acc a c v m m' (Err f) s p = stays_paid l acc m m' s.0 p
+
+pub rationed_fills : (l acc a c v : ℕ) (m m' : Meaning) (r : Result (Unit {0}) Fault) → Fills a c v m m' r → Fills a c v (rationed l acc m) (rationed l acc m') (own QuotaK a r)
+rationed_fills l acc a c v m m' r s = fills_with QuotaK (quota_offer l acc m) (quota_offer l acc m') m m' (same_offers l l acc acc m m' refl refl) a c v r s

@@ -1,7 +1,7 @@
 -- Functions of two heaps' addresses side by side, and where the blocks of a pair lie.
-use Rattle.std.specs.Prelude.{◌≡◌, ℕ, ◌+◌, ◌-◌, ◌<◌, ◌≤◌, Bool, true, false, cond, ◌==◌, nat_lt}
+use Rattle.std.specs.Prelude.{◌≡◌, ℕ, ◌+◌, ◌-◌, ◌<◌, ◌≤◌, Bool, true, false, cond, None, ◌==◌, nat_lt}
 use Rattle.std.proofs.Common.{sym, ◌∙◌, ap, subst, ⊎_elim, arith}
-use Rattle.heap.specs.Meaning.{In, Covered}
+use Rattle.heap.specs.Meaning.{In, Covered, Finds}
 use Rattle.pairs.specs.Pairs.{side_by_side}
 use Rattle.std.proofs.lemmas.Bool.{cond-true, cond-false, lt-ltb, le-ltb, ne_eqb, both_ways, cases_eq, cases_lt, cases_Bool}
 
@@ -57,6 +57,12 @@ module _ (s : ℕ) (o : Bool) (f g : ℕ → ℕ) where
         let kf = k.from in
         let kt = k.to in
         by_share ⊥ k.start (omega arith) (λ q e. let t = bound k.start (omega arith) in omega arith) (λ q e _. both_ways o p e)
+
+    pub finds_none : (a : ℕ) → s ≤ a → o ≡ true → Finds g (a - s) None → Finds (side_by_side s o f g) a None
+    finds_none a l p none = λ b i. in_share ⊥ b a i (λ q _. omega arith) (λ _ _ j. none (b - s) j)
+
+    pub finds_shut : (a : ℕ) → s ≤ a → o ≡ false → Finds (side_by_side s o f g) a None
+    finds_shut a l p = λ b i. in_share ⊥ b a i (λ q _. omega arith) (λ _ e _. both_ways o p e)
 
   pub covered_low : (a c : ℕ) → a < s → Covered (side_by_side s o f g) a c → Covered f a c
   covered_low a c l k = let kf = k.from in let kt = k.to in let e = low k.start (omega arith) in record { start = k.start; from = kf; to = omega arith }

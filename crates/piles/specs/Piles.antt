@@ -1,5 +1,6 @@
 -- The three piles, and a replay on each of them from the moment that it was made.
-use Rattle.std.specs.Prelude.{◌≡◌, ℕ, ◌<◌, false, ◌⊎◌, List, [], length, Ok, Err, Result}
+use Rattle.std.specs.Prelude.{◌≡◌, ℕ, ◌<◌, false, ◌⊎◌, List, [], ◌∷◌, length, Ok, Err, Result}
+use Rattle.std.specs.Result.{result_unwrap_or}
 use Rattle.heap.specs.declared.fault.Fault.{Fault}
 use Rattle.heap.specs.declared.rounding.Grain.{Grain}
 use Rattle.heap.specs.declared.rounding.Power.{Power}
@@ -17,6 +18,8 @@ use Rattle.boundary_tag.specs.declared.BoundaryTag.{BoundaryTag}
 use Rattle.boundary_tag.specs.Chunks.{chunks, one_free, tag_means, TagKeeps}
 use Rattle.trace.specs.declared.frame.Pile.{Pile}
 use Rattle.trace.specs.declared.frame.Pile.TheVariants as pile
+use Rattle.trace.specs.declared.frame.Frame.{Frame}
+use Rattle.trace.specs.Frames.{pile_of}
 use Rattle.trace.specs.Recordings.{Recording, recorded}
 use Rattle.layers.specs.declared.quota.Quota.{Quota}
 use Rattle.layers.specs.declared.rounded.Rounded.{Rounded}
@@ -102,6 +105,11 @@ pub data OnPile (trace out out' : List ℕ) (r : Result ℕ Fault) : Pile → Ty
   two : (b : Bitmap) → FreshBitmap 16384 b → Reusing bitmap_shown bitmap_kept b trace out out' r → OnPile trace out out' r pile.Reusing
   -- segregator of free list over bitmap 8,192, and quota over fallback of affix over boundary tag 8,192 and bump 4,096
   three : (a : Bitmap) (b : BoundaryTag) (c : Bump) → FreshBitmap 8192 a → FreshTags 8192 b → FreshBump 4096 c → Splitting bitmap_shown bitmap_kept tags_shown tags_kept bump_shown bump_kept a b c trace out out' r → OnPile trace out out' r pile.Splitting
+
+-- the pile that the first of frames names; pile 1 where it names none
+abbrev pub first_pile : List Frame → Pile
+first_pile [] = pile.Bump
+first_pile (f ∷ fs) = result_unwrap_or (pile_of f) pile.Bump
 
 -- a replay on a pile, which is the one that the trace names if it is accepted
 pub record OnOwnPile (trace out out' : List ℕ) (r : Result ℕ Fault) : Type 0 where

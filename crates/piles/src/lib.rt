@@ -4,7 +4,8 @@
 ghost use Rattle.std.specs.Prelude.{◌≡◌, Ok};
 ghost use Rattle.trace.specs.declared.frame.Pile.TheVariants as pile;
 ghost use Rattle.trace.specs.Recordings.{Recording, recorded};
-ghost use Rattle.piles.specs.Piles.{OnPile, OnOwnPile, Answers};
+ghost use Rattle.trace.specs.Frames.{frames_of};
+ghost use Rattle.piles.specs.Piles.{OnPile, OnOwnPile, Answers, first_pile};
 
 use bitmap::Bitmap;
 use boundary_tag::BoundaryTag;
@@ -56,7 +57,8 @@ fn replay_splitting(trace: &[u8], report: &mut [u8]) -> Result<usize, Fault>
 
 // The pile that a trace's head names. A trace whose head names none is refused on any pile, so one of them serves.
 fn named_pile(trace: &[u8]) -> Pile
-    ensures { (x : Recording) → recorded trace.now ≡ Ok x → x.pile ≡ result }
+    ensures first { result ≡ first_pile (frames_of trace.now) }
+    ensures named { (x : Recording) → recorded trace.now ≡ Ok x → x.pile ≡ result }
 {
     let Some((head, _)) = read_frame(trace) else {
         return Pile::Bump;

@@ -9,8 +9,9 @@ pub fn word(region: &[u8], p: u32) -> u32
     ensures inside { p + 4 ≤ length region.now → result ≡ word_at region.now p }
     ensures outside { length region.now < p + 4 → result ≡ 0 }
 {
-    match region.get(p as usize..) {
-        Some([a, b, c, d, ..]) => u32::from_le_bytes([*a, *b, *c, *d]),
+    let start = p as usize;
+    match region.get(start..start + 4) {
+        Some([a, b, c, d]) => u32::from_le_bytes([*a, *b, *c, *d]),
         _ => 0,
     }
 }
@@ -37,7 +38,9 @@ pub fn paint(region: &mut [u8], a: u32, c: u32, v: u8)
     if region.len() < end {
         return;
     }
-    region[start..end].fill(v);
+    for byte in &mut region[start..end] {
+        *byte = v;
+    }
 }
 
 // The used length, at most 65,536 bytes, rounded down to a multiple of 8.

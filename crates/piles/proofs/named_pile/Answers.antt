@@ -7,8 +7,8 @@ use Rattle.trace.specs.Frames.{pile_of}
 use Rattle.trace.proofs.Testing.{recorded_head}
 use Rattle.piles.proofs.named_pile.Goals as goal
 
-pub returns : goal.returns
-returns c x e =
+pub returns-clause-named : goal.returns-clause-named
+returns-clause-named c x e =
     let h = recorded_head c.args.trace.now x e in
     let s = sym h.2 ∙ c.in-Some.ensures.frames in
     let same : h.0 ≡ c.in-Some.head = cc in

@@ -1,17 +1,17 @@
-use Rattle.std.proofs.Common.{◌≡◌, ◌+◌, ◌<◌, ℕ, length, get_or, subst, arith}
+use Rattle.std.proofs.Common.{◌≡◌, ◌+◌, ◌<◌, ℕ, get_or, subst, arith}
 use Rattle.std.specs.List.{between}
 use Rattle.std.proofs.lemmas.List.Edits.{get_or-between}
 use Rattle.region.specs.Bytes.{word_at}
 use Rattle.region.proofs.word.Goals as goal
 
-pub returns-in-Some-len4-up-clause-inside : goal.returns-in-Some-len4-up-clause-inside
+pub returns-in-Some-len4-clause-inside : goal.returns-in-Some-len4-clause-inside
 unfolding word_at
-returns-in-Some-len4-up-clause-inside c h =
+returns-in-Some-len4-clause-inside c h =
     let p = c.args.p in
     let xs = c.args.region.now in
-    let ys = c.in-Some-len4-up.field-0.now in
-    let part : ys ≡ between p (length xs) xs = c.in-Some-len4-up.ensures.lookup.0.2 in
-    let same : (i : ℕ) → p + i < length xs → get_or ys i 0 ≡ get_or xs (p + i) 0 = λ i l. rw part (get_or-between xs p (length xs) i 0 l) in
+    let ys = c.in-Some-len4.field-0.now in
+    let part : ys ≡ between p (p + 4) xs = c.in-Some-len4.ensures.lookup.0.2 in
+    let same : (i : ℕ) → p + i < p + 4 → get_or ys i 0 ≡ get_or xs (p + i) 0 = λ i l. rw part (get_or-between xs p (p + 4) i 0 l) in
     let value = c.from_le_bytes.ensures in
     let start : p + 0 ≡ p = omega arith in
     let a : get_or ys 0 0 ≡ get_or xs p 0 = subst (λ (k : ℕ). get_or ys 0 0 ≡ get_or xs k 0) start (same 0 (omega arith)) in

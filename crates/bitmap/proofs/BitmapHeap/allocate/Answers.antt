@@ -36,4 +36,5 @@ returns c =
       answer = o;
       after = bitmap_granted xs ys u f u' f' c.args.n b (sym o) c.mark.ensures p;
       kept = λ from h k. keeps_granted xs ys u f u' f' c.args.n b (sym o) c.mark.ensures p from.region.now (bit_in from.maps.used.words) (bit_in from.maps.first.words) h k;
+      maps = c.mark.ensures;
     }

@@ -1,10 +1,11 @@
-use Rattle.std.proofs.Common.{◌≡◌, ℕ, ◌+◌, ◌/◌, ◌<◌, ◌≤◌, List, length, Ok, Option, sym, ◌∙◌, arith}
+use Rattle.std.proofs.Common.{◌≡◌, ℕ, ◌+◌, ◌/◌, ◌<◌, ◌≤◌, List, length, Ok, Err, Option, sym, refl, ◌∙◌, subst, arith}
+use Rattle.std.proofs.lemmas.Result.{err_from_is_err_and}
 use Rattle.heap.specs.declared.fault.Kind.TheVariants.{Bitmap as BitmapK}
 use Rattle.heap.specs.Meaning.{Block, Finds}
 use Rattle.heap.specs.Checks.{begun, checked_free}
 use Rattle.heap.proofs.Checked.{begun_is, free_checked, free_refused}
 use Rattle.bitmap.specs.Words.{bit_in}
-use Rattle.bitmap.specs.Cells.{Map, cells_of, bitmap_live, bitmap_means}
+use Rattle.bitmap.specs.Cells.{Map, cells_of, bitmap_live, bitmap_means, Unmarked}
 use Rattle.bitmap.specs.Laws.{bitmap_lawful}
 use Rattle.bitmap.proofs.Calls.{bitmap_freed, keeps_freed}
 use Rattle.bitmap.proofs.BitmapHeap.free.Goals as goal
@@ -42,6 +43,7 @@ returns c =
       answer = let is = p.is in let some = p.some in omega arith;
       after = bitmap_freed xs u f u' f' c.args.a l p.is p.some c.unmark.ensures;
       kept = λ from h k. keeps_freed xs u f u' f' c.args.a l p.is p.some c.unmark.ensures from.region.now (bit_in from.maps.used.words) (bit_in from.maps.first.words) h k;
+      maps = record { was = let is = p.is in let some = p.some in omega arith; unmarked = subst (λ (z : ℕ). Unmarked (c.args.a / 64) (z / 64) u f u' f') (sym p.is) c.unmark.ensures };
     }
 
 pub returns-in_err-check_free-clause-answer : goal.returns-in_err-check_free-clause-answer
@@ -50,3 +52,12 @@ returns-in_err-check_free-clause-answer c =
     let u = bit_in c.args.self.now.maps.used.words in
     let f = bit_in c.args.self.now.maps.first.words in
     free_refused BitmapK (bitmap_means xs u f) (bitmap_lawful xs u f) c.args.a c.find-found.result c.find-found.ensures _ c.from_residual.result c.in_err-check_free.ensures c.from_residual.ensures.1
+
+pub returns-in_err-check_free-clause-maps : goal.returns-in_err-check_free-clause-maps
+returns-in_err-check_free-clause-maps c =
+    let xs = c.args.self.now.region.now in
+    let u = bit_in c.args.self.now.maps.used.words in
+    let f = bit_in c.args.self.now.maps.first.words in
+    let q = free_checked BitmapK (bitmap_means xs u f) (bitmap_lawful xs u f) c.args.a c.find-found.result c.find-found.ensures (Err _) c.in_err-check_free.ensures in
+    let p = err_from_is_err_and c.from_residual.result c.from_residual.ensures.1 in
+    rw (p.1, p.2) (q.0, q.1, refl, refl)

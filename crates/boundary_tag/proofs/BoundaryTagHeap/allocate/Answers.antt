@@ -34,3 +34,6 @@ returns-clause-after c = tag_allocates c.args.self.now.region.now c.grant.new.se
 
 pub returns-clause-kept : goal.returns-clause-kept
 returns-clause-kept c = λ from h k. keeps_allocates c.args.self.now.region.now c.grant.new.self.region.now from.region.now h c.args.n (Ok c.block.result) (granted c) k
+
+pub returns-clause-chunks : goal.returns-clause-chunks
+returns-clause-chunks c = granted c

@@ -28,3 +28,6 @@ returns-clause-after c = tag_fills c.args.self.now.region.now c.paint.new.region
 
 pub returns-clause-kept : goal.returns-clause-kept
 returns-clause-kept c = λ from h k. keeps_fills c.args.self.now.region.now c.paint.new.region c.args.a c.args.c c.args.b from.region.now h (Ok tt) (painted c) k
+
+pub returns-clause-chunks : goal.returns-clause-chunks
+returns-clause-chunks c = painted c

@@ -23,3 +23,6 @@ returns-clause-after c = tag_frees c.args.self.now.region.now c.write.new.region
 
 pub returns-clause-kept : goal.returns-clause-kept
 returns-clause-kept c = λ from h k. keeps_frees c.args.self.now.region.now c.write.new.region c.args.a from.region.now h (Ok tt) (released c) k
+
+pub returns-clause-chunks : goal.returns-clause-chunks
+returns-clause-chunks c = released c

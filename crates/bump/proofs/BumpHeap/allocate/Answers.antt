@@ -19,4 +19,5 @@ returns c =
       answer = c.in_ok-block.ensures;
       after = subst (λ (next : ℕ). Granted b.0 b.1 (bump_means xs cursor) (bump_means ys next)) moved (bump_granted xs ys cursor c.args.n b f g);
       kept = λ from h k. subst (λ (next : ℕ). BumpKeeps from.region.now from.cursor (granted c.args.n b.0 b.1 ∷ h) ys next) moved (keeps_granted xs ys cursor c.args.n b f g from.region.now from.cursor h k);
+      table = (sym moved, g);
     }

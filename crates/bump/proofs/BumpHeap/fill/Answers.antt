@@ -1,4 +1,4 @@
-use Rattle.std.proofs.Common.{◌≡◌, ◌<◌, Ok, sym}
+use Rattle.std.proofs.Common.{◌≡◌, ◌<◌, Ok, sym, refl}
 use Rattle.heap.specs.declared.fault.Kind.TheVariants.{Bump as BumpK}
 use Rattle.heap.specs.Meaning.{Covered}
 use Rattle.heap.specs.Checks.{checked_fill}
@@ -29,4 +29,5 @@ returns c =
       answer = (z, ∣ k ∣₁);
       after = bump_filled xs ys cursor a n c.args.b p;
       kept = λ from h q. keeps_filled xs ys cursor a n c.args.b p from.region.now from.cursor h q;
+      table = (refl, p);
     }
