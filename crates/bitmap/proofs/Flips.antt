@@ -1,5 +1,5 @@
 -- Bits of words: one that is flipped, and words with none.
-use Rattle.std.proofs.Common.{◌≡◌, ℕ, ◌+◌, ◌/◌, ◌%◌, ◌^◌, ◌<◌, Bool, true, false, cond, not, ◌≢◌, List, length, get_or, set, arith, length-set}
+use Rattle.std.proofs.Common.{◌≡◌, ℕ, ◌+◌, ◌/◌, ◌%◌, ◌^◌, ◌<◌, ◌≤◌, Bool, true, false, cond, not, ◌≢◌, List, length, get_or, set, arith, length-set}
 use mathlib.Core.Bool.{beq}
 use Rattle.std.specs.Array.{AllOfLen}
 use lib.Bits.{bit_xor}
@@ -9,6 +9,16 @@ use Rattle.std.proofs.lemmas.Bool.Decides.{nat_tests}
 use Rattle.std.proofs.lemmas.Nat.Bits.{bit_at_xor, bit_at-pow_same, bit_at-pow_other, bit_at-zero}
 use Rattle.std.proofs.lemmas.List.{get_or_past}
 use Rattle.bitmap.specs.Words.{bit_in, inside, Put}
+
+-- which cells are among w from i on
+pub inside_yes : (i w x : ℕ) → i ≤ x → x < i + w → inside i w x ≡ true
+inside_yes i w x l h = grind (arith, nat_tests)
+
+pub inside_before : (i w x : ℕ) → x < i → inside i w x ≡ false
+inside_before i w x l = grind (arith, nat_tests)
+
+pub inside_past : (i w x : ℕ) → i + w ≤ x → inside i w x ≡ false
+inside_past i w x l = grind (arith, nat_tests)
 
 -- a bit that is flipped, and the others of its word
 flip_same : (a k : ℕ) → bit_at (bit_xor a (2 ^ k)) k ≡ (bit_at a k + 1) % 2

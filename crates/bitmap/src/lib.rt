@@ -56,7 +56,7 @@ impl<'r> Meant for Bitmap<'r> {
     ghost begins = { λ s. bitmap_begins s.region.now (used_in s.maps) (first_in s.maps) };
 }
 
-// What every heap owes is said again where a call says more: `maps` is what it leaves of the two maps, whatever they were. A refused call leaves them.
+// What every heap owes is said again where a call says more: `maps` is what it leaves of the two maps, whatever they were, and that a refused one leaves them.
 impl<'r> Heap for Bitmap<'r> {
     fn span(&self) -> u32 {
         CELL * self.cells()

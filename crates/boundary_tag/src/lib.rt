@@ -54,7 +54,7 @@ impl<'r> Meant for BoundaryTag<'r> {
     ghost begins = { λ s. tag_begins s.region.now };
 }
 
-// What every heap owes is said again where a call says more: `chunks` is the list of chunks that it leaves, whatever the region held. A refused call writes nothing.
+// What every heap owes is said again where a call says more: `chunks` is what it leaves of the chunks and of the bytes, whatever the region held. A refused call writes nothing.
 impl<'r> Heap for BoundaryTag<'r> {
     fn span(&self) -> u32 {
         usable(self.region)

@@ -1,13 +1,33 @@
 -- Which heap of a pair a call reaches, and what the pair keeps then.
-use Rattle.std.proofs.Common.{◌≡◌, ℕ, ◌-◌, ◌<◌, ltb, ◌∷◌, Ok, Err, Result, sym, refl, subst}
+use Rattle.std.proofs.Common.{◌≡◌, ℕ, ◌-◌, ◌<◌, ◌≤◌, ltb, ◌∷◌, Ok, Err, Result, sym, refl, subst}
 use Rattle.heap.specs.declared.fault.Fault.{Fault}
 use Rattle.heap.specs.Faults.{up}
 use Rattle.heap.specs.Meaning.{Meaning, Block}
-use Rattle.heap.specs.Histories.{History, granted, after_allocate}
+use Rattle.heap.specs.Histories.{History, granted, filled, after_allocate, after_fill}
 use Rattle.pairs.specs.declared.pair.Pair.{Pair}
 use Rattle.pairs.specs.Pairs.{sent_first, sent_second}
 use Rattle.pairs.specs.PairStates.{PairKeeps}
-use Rattle.std.proofs.lemmas.Bool.{cond-true, lt-ltb}
+use Rattle.std.proofs.lemmas.Bool.{cond-true, cond-false, lt-ltb, le-ltb}
+
+-- a fill for an address in the first's share
+module _ (s a : ℕ) (l : a < s) (h : History) where
+  pub fill_first : (c v : ℕ) (r : Result (Unit {0}) Fault) → sent_first s (after_fill a c v r h) ≡ after_fill a c v r (sent_first s h)
+  fill_first c v (Ok t) = cond-true (ltb a s) (filled a c v ∷ sent_first s h) (sent_first s h) (lt-ltb a s l)
+  fill_first c v (Err f) = refl
+
+  pub fill_not_second : (c v : ℕ) (r : Result (Unit {0}) Fault) → sent_second s (after_fill a c v r h) ≡ sent_second s h
+  fill_not_second c v (Ok t) = cond-true (ltb a s) (sent_second s h) (filled (a - s) c v ∷ sent_second s h) (lt-ltb a s l)
+  fill_not_second c v (Err f) = refl
+
+-- a fill for an address from the first's span on
+module _ (s a : ℕ) (l : s ≤ a) (h : History) where
+  pub fill_not_first : (c v : ℕ) (r : Result (Unit {0}) Fault) → sent_first s (after_fill a c v r h) ≡ sent_first s h
+  fill_not_first c v (Ok t) = cond-false (ltb a s) (filled a c v ∷ sent_first s h) (sent_first s h) (le-ltb a s l)
+  fill_not_first c v (Err f) = refl
+
+  pub fill_second : (c v : ℕ) (r : Result (Unit {0}) Fault) → sent_second s (after_fill a c v r h) ≡ after_fill (a - s) c v r (sent_second s h)
+  fill_second c v (Ok t) = cond-false (ltb a s) (sent_second s h) (filled (a - s) c v ∷ sent_second s h) (le-ltb a s l)
+  fill_second c v (Err f) = refl
 
 -- a grant of the first
 module _ (s n : ℕ) (h : History) where

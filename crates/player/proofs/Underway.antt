@@ -12,12 +12,15 @@ use Rattle.trace.specs.declared.frame.Frame.{Frame}
 use Rattle.trace.specs.declared.frame.Action.{Action}
 use Rattle.trace.specs.Frames.{pile_number, id_of, action_of}
 use Rattle.heap.specs.declared.fault.Fault.{Fault}
-use Rattle.trace.specs.Recordings.{Recording, recorded, actions_in, listed}
+use Rattle.heap.specs.declared.fault.Cause.TheVariants.{ReportBuffer}
+use Rattle.heap.specs.declared.fault.Kind.TheVariants.{Replay}
+use Rattle.heap.specs.Faults.{raised}
+use Rattle.trace.specs.Recordings.{Recording, recorded, recorded_pile, actions_in, listed}
 use Rattle.report.specs.declared.tally.Outcome.{Outcome}
 use Rattle.report.specs.declared.tally.Load.{Load}
 use Rattle.report.specs.declared.tally.Tally.{Tally}
 use Rattle.report.specs.Tallies.{load_of, load_after, tally_of, Loadable, Countable}
-use Rattle.report.specs.Lines.{report_text, Writes}
+use Rattle.report.specs.Lines.{report_text, checked_buffer, Writes}
 use Rattle.report.proofs.Tallying.{load_push}
 use Rattle.player.specs.declared.slots.Slot.{Slot}
 use Rattle.player.specs.declared.slots.Slot.TheVariants.{Empty}
@@ -80,3 +83,12 @@ module _ {S : Type 0} (means : S → Meaning) (keeps : S → History → S → T
   pub reported : (trace : List ℕ) (x : Recording) (p : ℕ) (t : Tally) (s s' : S) (out out' : List ℕ) (r : Result ℕ Fault) → recorded trace ≡ Ok x → pile_number x.pile ≡ p → Replayed means keeps x.actions t s s' → 256 ≤ length out → Writes (report_text p t) out out' r → Replays means keeps trace s s' out out' r
   reported trace x p t s s' out out' (Ok n) e q k long w = (x, t, e, k, subst (λ (z : ℕ). Writes (report_text z t) out out' (Ok n)) (sym q) w)
   reported trace x p t s s' out out' (Err f) e q k long w = absurd (let l = w.0 in let z : ⊥ = omega arith in z)
+
+-- a trace that was refused
+pub refused_by : (r : Result Recording Fault) (f : Fault) → recorded_pile r ≡ Err f → r ≡ Err f
+refused_by (Ok x) f e = absurd (let z : ◌≡◌ {A = ℕ} 0 1 = cc in let w : ⊥ = omega arith in w)
+refused_by (Err g) f e = cc
+
+-- a buffer that was refused
+pub too_short : (n : ℕ) (f : Fault) → ◌≡◌ {A = Result (Unit {0}) Fault} (Err f) (checked_buffer n) → (n < 256) × (f ≡ raised ReportBuffer Replay 256)
+too_short n f e = (grind arith, grind arith)

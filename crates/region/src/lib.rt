@@ -4,7 +4,7 @@
 ghost use Rattle.std.specs.Prelude.{◌≡◌, ◌+◌, ◌<◌, ◌≤◌, length};
 ghost use Rattle.region.specs.Bytes.{word_at, put_word, Painted, span_of};
 
-// The number in the four bytes from `p` on, lowest first; 0 where the region ends before: no header and no tag has that for a length, and these are read first.
+// The number in the four bytes from `p` on, lowest first; 0 where the region ends before: no header and no tag has that for a length, and their lengths are read first.
 pub fn word(region: &[u8], p: u32) -> u32
     ensures inside { p + 4 ≤ length region.now → result ≡ word_at region.now p }
     ensures outside { length region.now < p + 4 → result ≡ 0 }

@@ -50,7 +50,7 @@ room_left p q s t n w few room =
     omega arith
 
 -- the text of the elements before an index, with that of the one there
-grown : {X : Type 0} (f : X → List ℕ) (xs : List X) (i : ℕ) (d : X) → i < length xs → flat_map f (take (i + 1) xs) ≡ flat_map f (take i xs) ++ f (get_or xs i d)
+pub grown : {X : Type 0} (f : X → List ℕ) (xs : List X) (i : ℕ) (d : X) → i < length xs → flat_map f (take (i + 1) xs) ≡ flat_map f (take i xs) ++ f (get_or xs i d)
 grown f xs i d h = ap (flat_map f) (take_more xs i d h) ∙ sym (flat_map_more f [] (take i xs) (get_or xs i d))
 
 front_shorter : {X : Type 0} (f : X → List ℕ) (j : ℕ) (xs : List X) → length (flat_map f (take j xs)) ≤ length (flat_map f xs)

@@ -66,7 +66,7 @@ kinds_refused os f n e =
     (cases_eq k j))
 
 -- the first refusal, where there was none before
-first_none : (n : ℕ) (os more : List Outcome) → first_from n os ≡ None → first_from n (os ++ more) ≡ first_from (n + length os) more
+pub first_none : (n : ℕ) (os more : List Outcome) → first_from n os ≡ None → first_from n (os ++ more) ≡ first_from (n + length os) more
 first_none n [] more e = ap (λ (z : ℕ). first_from z more) (omega arith)
 first_none n (Refused f ∷ os) more e = cc
 first_none n (Granted c ∷ os) more e = first_none (n + 1) os more e ∙ ap (λ (z : ℕ). first_from z more) (omega arith)
@@ -74,7 +74,7 @@ first_none n (Freed c ∷ os) more e = first_none (n + 1) os more e ∙ ap (λ (
 first_none n (Done ∷ os) more e = first_none (n + 1) os more e ∙ ap (λ (z : ℕ). first_from z more) (omega arith)
 
 -- it stays the first
-first_some : (n : ℕ) (os more : List Outcome) (p : ℕ × Fault) → first_from n os ≡ Some p → first_from n (os ++ more) ≡ Some p
+pub first_some : (n : ℕ) (os more : List Outcome) (p : ℕ × Fault) → first_from n os ≡ Some p → first_from n (os ++ more) ≡ Some p
 first_some n [] more p e = cc
 first_some n (Refused f ∷ os) more p e = e
 first_some n (Granted c ∷ os) more p e = first_some (n + 1) os more p e
@@ -90,7 +90,7 @@ first_refused os f n e = by_first (first_from 1 os) refl
     by_first None h = ap (λ (z : ℕ). Some (z, f)) (omega arith) ∙ sym (first_none 1 os (Refused f ∷ []) h)
 
 -- and with another frame
-first_other : (n : ℕ) (os : List Outcome) (o : Outcome) → ((f : Fault) → o ≡ Refused f → ⊥) → first_from n (os ++ (o ∷ [])) ≡ first_from n os
+pub first_other : (n : ℕ) (os : List Outcome) (o : Outcome) → ((f : Fault) → o ≡ Refused f → ⊥) → first_from n (os ++ (o ∷ [])) ≡ first_from n os
 first_other n [] (Granted c) other = refl
 first_other n [] (Freed c) other = refl
 first_other n [] Done other = refl
